@@ -1,0 +1,7 @@
+pub mod Bits
+pub mod Octets
+pub mod Parts
+pub mod Places
+pub mod Reading
+pub mod WordInverse
+pub mod Words

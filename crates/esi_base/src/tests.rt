@@ -1,0 +1,118 @@
+//! What no clause says: that each call succeeds with ample memory, and a few answers that were worked
+//! out by hand.
+use super::*;
+use std::process::Abort;
+use std::test::Fail;
+
+/// Pushes the items one after the other. Where memory is wanting, the item has to come back and the
+/// list has to be as it was.
+fn push_each(rt: &impl Abort, list: &mut List<u32>, items: &[u32]) -> Result<(), NoMemory> {
+    for item in items {
+        let count = list.len();
+        if let Err(back) = list.push(*item) {
+            assert_eq!(rt; back, *item);
+            assert_eq!(rt; list.len(), count);
+            return Err(NoMemory);
+        }
+        assert_eq!(rt; list.get(count), Some(item));
+    }
+    Ok(())
+}
+
+#[test]
+fn a_list_holds_what_was_pushed(rt: HostRuntime) -> Result<(), Fail> {
+    let mut list: List<u32> = List::new(rt.alloc());
+    assert!(rt; list.is_empty());
+    push_each(&rt, &mut list, &[5, 6, 7, 8, 9])?;
+    assert!(rt; !list.is_empty());
+    assert_eq!(rt; list.len(), 5);
+    assert_eq!(rt; list.get(4), Some(&9));
+    assert_eq!(rt; list.get(5), None);
+    assert_eq!(rt; list.set(1, 60), 6);
+    assert_eq!(rt; list.as_slice(), &[5, 60, 7, 8, 9][..]);
+    list.truncate(2);
+    assert_eq!(rt; list.as_slice(), &[5, 60][..]);
+    let again = List::from_vec(list.into_vec());
+    assert_eq!(rt; again.as_slice(), &[5, 60][..]);
+    Ok(())
+}
+
+#[test]
+fn octets_are_copied_from_slices(rt: HostRuntime) -> Result<(), Fail> {
+    let mut octets: Octets = List::from_slice(rt.alloc(), b"two ")?;
+    if octets.push_all(b"words").is_err() {
+        assert_eq!(rt; octets.as_slice(), &b"two "[..]);
+        return Err(NoMemory.into());
+    }
+    assert_eq!(rt; octets.as_slice(), &b"two words"[..]);
+    Ok(())
+}
+
+#[test]
+fn lines_and_columns_count_from_1(rt: HostRuntime) {
+    let text = b"ab\n\ncd\n";
+    for (at, line, column) in [
+        (0, 1, 1),
+        (1, 1, 2),
+        (2, 1, 3),
+        (3, 2, 1),
+        (4, 3, 1),
+        (5, 3, 2),
+        (6, 3, 3),
+        (7, 4, 1),
+    ] {
+        assert_eq!(rt;
+            Place::at_offset(text, at),
+            Place { line, column },
+            "at {at}"
+        );
+    }
+    assert_eq!(rt; Place::at_offset(b"", 0), Place { line: 1, column: 1 });
+}
+
+#[test]
+fn words_of_all_zeros_have_their_width(rt: HostRuntime) {
+    for width in [1, 64, 65, 1024] {
+        let word = Word::zero(width);
+        assert_eq!(rt; word.width(), width);
+        assert!(rt; !word.bit(0));
+        assert!(rt; !word.bit(width - 1));
+        assert_eq!(rt; word.octet(127), 0);
+    }
+}
+
+#[test]
+fn words_have_the_bits_of_their_number(rt: HostRuntime) {
+    let one = Word::from_u128(1, 1);
+    assert_eq!(rt; one.width(), 1);
+    assert!(rt; one.bit(0));
+    let limb = Word::from_u128(64, 0x8000_0000_0000_0001);
+    assert!(rt; limb.bit(0) && !limb.bit(1) && !limb.bit(62) && limb.bit(63));
+    let past = Word::from_u128(65, 0x1_0000_0000_0000_0000);
+    assert!(rt; !past.bit(0) && !past.bit(63) && past.bit(64));
+    let wide = Word::from_u128(1024, 0x1_0000_0000_0000_0000);
+    assert!(rt; !wide.bit(63) && wide.bit(64) && !wide.bit(1023));
+}
+
+#[test]
+fn octets_stand_at_their_places_across_limbs(rt: HostRuntime) {
+    let ones = Word::from_u128(128, u128::MAX);
+    let counting = Word::from_u128(128, 0x0f0e_0d0c_0b0a_0908_0706_0504_0302_0100);
+    for at in 0..16 {
+        assert_eq!(rt; ones.octet(at), 255, "at {at}");
+        assert_eq!(rt; u32::from(counting.octet(at)), at, "at {at}");
+    }
+    assert_eq!(rt; ones.octet(16), 0);
+    assert!(rt; ones.bit(127));
+    let nine = Word::from_u128(9, 0x1a5);
+    assert_eq!(rt; (nine.octet(0), nine.octet(1), nine.octet(2)), (0xa5, 1, 0));
+}
+
+#[test]
+fn want_of_memory_becomes_a_stop(rt: HostRuntime) {
+    assert_eq!(rt; Stop::from(NoMemory), Stop::NoMemory);
+    let place = Place { line: 1, column: 8 };
+    let refusal = Refusal { number: 219, place };
+    assert!(rt; Stop::Refused(refusal) != Stop::NoMemory);
+    assert!(rt; matches!(Poll::Ready(3), Poll::Ready(3)));
+}
