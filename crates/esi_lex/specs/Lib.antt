@@ -1,0 +1,9 @@
+pub mod Octet
+pub mod Digits
+pub mod DigitSums
+pub mod Refused
+pub mod Tokens
+pub mod Steps
+pub mod Cuts
+pub mod CutLaw
+pub mod CutOnly

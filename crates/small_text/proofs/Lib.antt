@@ -1,0 +1,5 @@
+mod Cutting
+mod Digits
+mod PartCutting
+mod PartPlaces
+mod PartRuns
