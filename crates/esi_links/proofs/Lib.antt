@@ -1,0 +1,3 @@
+pub mod GrowthJoined
+pub mod LogSteps
+pub mod PieceRead

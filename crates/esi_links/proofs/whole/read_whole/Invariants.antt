@@ -1,0 +1,20 @@
+use Rattle.std.proofs.Common.{◌≡◌, ℕ, List, false, length, ◌+◌, ◌-◌, ◌<◌, ◌≤◌}
+use Rattle.esi_links.specs.Counts.{Later, SameCounts}
+use Rattle.esi_links.specs.Texts.{FrontOf, SameTexts}
+use Rattle.esi_links.proofs.whole.read_whole.Given as goal
+
+-- what was read is the front of the text, at most one octet above the limit
+abbrev pub invariant-loop-piece : goal.invariant-loop-piece
+invariant-loop-piece g l = record {
+  front : FrontOf (g.F.Files.text l.fn.files l.name) l.octets;
+  within : length l.octets ≤ l.limit + 1;
+  texts : SameTexts (g.F.Files.text l.fn.files) (g.F.Files.text l.files);
+  readable : 0 < length l.octets → g.F.Files.unreadable l.fn.files l.name ≡ false;
+  unreadables : (other : List ℕ) → g.F.Files.unreadable l.files other ≡ g.F.Files.unreadable l.fn.files other;
+  quiet : SameCounts (g.F.Files.read_faults l.fn.files) (g.F.Files.read_faults l.files);
+  reads : Later (g.F.Files.read_faults l.fn.files) (g.F.Files.read_faults l.files);
+  writes : Later (g.F.Files.write_faults l.fn.files) (g.F.Files.write_faults l.files);
+}
+
+abbrev pub decreases-loop-piece : goal.decreases-loop-piece
+decreases-loop-piece g l = l.limit + 1 - length l.octets

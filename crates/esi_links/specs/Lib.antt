@@ -1,0 +1,9 @@
+pub mod Adapters
+pub mod Counts
+pub mod FailingCalls
+pub mod Fresh
+pub mod Growth
+pub mod Held
+pub mod LinkLog
+pub mod SureLog
+pub mod Texts

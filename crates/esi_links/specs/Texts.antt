@@ -1,0 +1,31 @@
+-- What reading and writing do to the texts that files tell.
+use Rattle.std.specs.Prelude.{◌≡◌, ◌≢◌, Bool, true, false, ℕ, ◌+◌, ◌≤◌, List, Option, length, take, drop, IfSome}
+
+-- the piece holds the octets that stand in the text from `at` on, and an empty one is its end
+pub record PieceAt (told : Option (List ℕ)) (at : ℕ) (piece : List ℕ) : Type 0 where
+  pub here : IfSome told (λ text. take (length piece) (drop at text) ≡ piece)
+  pub end : IfSome told (λ text. length piece ≡ 0 → length text ≤ at)
+
+-- every text is told as before
+abbrev pub SameTexts : (List ℕ → Option (List ℕ)) → (List ℕ → Option (List ℕ)) → Type 0
+SameTexts before now = (name : List ℕ) → now name ≡ before name
+
+-- every text but the one under this name is told as before
+abbrev pub SameElsewhere : List ℕ → (List ℕ → Option (List ℕ)) → (List ℕ → Option (List ℕ)) → Type 0
+SameElsewhere name before now = (other : List ℕ) → other ≢ name → now other ≡ before other
+
+-- the octets are the front of the text, up to one octet above the limit
+pub record ReadUpTo (limit : ℕ) (told : Option (List ℕ)) (octets : List ℕ) : Type 0 where
+  pub within : length octets ≤ limit + 1
+  pub front : IfSome told (λ text. take (limit + 1) text ≡ octets)
+
+-- the octets are a front of the text
+pub record FrontOf (told : Option (List ℕ)) (octets : List ℕ) : Type 0 where
+  pub front : IfSome told (λ text. take (length octets) text ≡ octets)
+
+-- at most this many octets were read behind a front, with `more` false at the end of the text
+pub record ReadsOn (most : ℕ) (told : Option (List ℕ)) (before now : List ℕ) (more : Bool) : Type 0 where
+  pub front : FrontOf told now
+  pub within : length now ≤ length before + most
+  pub longer : more ≡ true → length before + 1 ≤ length now
+  pub whole : more ≡ false → IfSome told (λ text. text ≡ now)

@@ -1,0 +1,57 @@
+//! Files, as a program reaches them.
+ghost use Rattle.std.specs.Prelude.{◌≡◌, ℕ, ◌<◌, ◌≤◌, Bool, false, List, Option, length, take, IfOk, OnOk, IfSome, IsSome, IsErrOf};
+ghost use Rattle.esi_links.specs.Counts.{Later, HasCauseAt, SameCounts};
+ghost use Rattle.esi_links.specs.Texts.{PieceAt, SameTexts, SameElsewhere};
+
+use crate::OutStop;
+
+/// Files by name. They tell, where they can, the text held under each name, and they count the
+/// reads and the writes that failed. No count ever falls, and one that stands at its last value,
+/// 2^64 - 1, stands still: a failure there counts as a rise. One counter may serve for several
+/// counts.
+pub trait Files {
+    /// The text told under a name, if one is told.
+    ghost text: { Self → List ℕ → Option (List ℕ) };
+
+    /// Whether nothing can be read under a name, so that every read there fails.
+    ghost unreadable: { Self → List ℕ → Bool };
+
+    /// How many reads under a name failed.
+    ghost read_faults: { Self → List ℕ → ℕ };
+
+    /// How many writes under a name failed.
+    ghost write_faults: { Self → List ℕ → ℕ };
+
+    /// Reads octets of the file under a name, from the octet at `at`, which counts from 0 and is at
+    /// most 67,108,864. Ok(n): the first n places of the piece hold the n octets from `at`; 0 is the
+    /// end of the file. For want of memory the piece and the files are as before.
+    fn read(&mut self, name: &str, at: u64, into: &mut [u8]) -> Result<usize, OutStop>
+        requires piece { 0 < length into.old }
+        requires reach { at ≤ 67108864 }
+        ensures bound { IfOk result (λ n. n ≤ length into.new) }
+        ensures octets { IfOk result (λ n. PieceAt (text self.old name.now) at (take n into.new)) }
+        ensures readable { OnOk result (unreadable self.old name.now ≡ false) }
+        ensures texts { SameTexts (text self.old) (text self.new) }
+        ensures unreadables { (other : List ℕ) → unreadable self.new other ≡ unreadable self.old other }
+        ensures quiet { OnOk result (SameCounts (read_faults self.old) (read_faults self.new)) }
+        ensures cause { HasCauseAt (read_faults self.old) (read_faults self.new) name.now result }
+        ensures writes { Later (write_faults self.old) (write_faults self.new) }
+        ensures no_memory_piece { IsErrOf result OutStop.NoMemory → into.new ≡ into.old }
+        ensures no_memory_reads { IsErrOf result OutStop.NoMemory → SameCounts (read_faults self.old) (read_faults self.new) }
+        ensures no_memory_writes { IsErrOf result OutStop.NoMemory
+            → SameCounts (write_faults self.old) (write_faults self.new) };
+
+    /// Puts a text in place of the whole file under a name. After a fault any text may stand under
+    /// that name. For want of memory the files are as before.
+    fn write(&mut self, name: &str, octets: &[u8]) -> Result<(), OutStop>
+        ensures written { OnOk result (IfSome (text self.new name.now) (λ text. text ≡ octets.now)) }
+        ensures told { IfSome (text self.old name.now) (λ _. IsSome (text self.new name.now)) }
+        ensures quiet { OnOk result (SameCounts (write_faults self.old) (write_faults self.new)) }
+        ensures elsewhere { SameElsewhere name.now (text self.old) (text self.new) }
+        ensures cause { HasCauseAt (write_faults self.old) (write_faults self.new) name.now result }
+        ensures reads { Later (read_faults self.old) (read_faults self.new) }
+        ensures no_memory_texts { IsErrOf result OutStop.NoMemory → SameTexts (text self.old) (text self.new) }
+        ensures no_memory_reads { IsErrOf result OutStop.NoMemory → SameCounts (read_faults self.old) (read_faults self.new) }
+        ensures no_memory_writes { IsErrOf result OutStop.NoMemory
+            → SameCounts (write_faults self.old) (write_faults self.new) };
+}
