@@ -1,0 +1,13 @@
+pub mod Circuit
+pub mod Cycle
+pub mod Examples
+pub mod Kept
+pub mod KeptLemmas
+pub mod Lists
+pub mod One
+pub mod Order
+pub mod OrderLemmas
+pub mod Stimulated
+pub mod StepLemmas
+pub mod Within
+pub mod WithinLemmas

@@ -1,0 +1,25 @@
+//! The rules of a cycle, for any circuit and any number of channels: what a cycle is, how a
+//! simulation chooses what is taken and handed, that no value that is put is lost before it is taken, that
+//! a circuit which keeps its values in order hands them out in the order in which they were taken, and
+//! how much rings hold at most.
+#![tactic(auto)]
+
+ghost use Rattle.std.specs.Prelude.{List};
+ghost use Rattle.cycle_rules.specs.Circuit.{Bits, Circuit};
+ghost use Rattle.cycle_rules.specs.Order.{KeepsOrder, StaysInOrder};
+
+mod puts;
+mod sizes;
+pub mod step;
+
+pub use puts::puts_are_kept;
+pub use sizes::rings_stay_within;
+pub use step::{Drive, Moved};
+
+/// The law of order. A circuit of one channel each way that keeps its values in order hands out, after
+/// any steps from an empty start, the words that were taken, in their order: the words taken are the
+/// words handed, followed by those that are still in the rings and in the circuit. `S` is what the
+/// circuit consists of.
+pub fn values_stay_in_order<S>()
+    ensures { (circuit : Circuit S) (held : S → List Bits) → KeepsOrder circuit held → StaysInOrder circuit held }
+{}

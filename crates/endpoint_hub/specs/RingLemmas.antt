@@ -1,0 +1,82 @@
+-- One channel's ring, and one channel's part of the journal, at a change of any channel.
+use Rattle.std.proofs.Common.{◌≡◌, ◌≢◌, ℕ, zero, suc, ◌+◌, ◌<◌, inl, inr, true, false, eqb, cond, Some, None, List, [], ◌∷◌, ◌++◌, length, drop, replicate, slice_get, refl, sym, ap, ◌∙◌, append_assoc, arith}
+use Rattle.std.proofs.lemmas.List.{append-nil, get_or-set_same, get_or-set_other, get_or_past, length-set}
+use Rattle.std.proofs.lemmas.Bool.{cases_lt, eq-eqb, ne_eqb}
+use Rattle.std.proofs.lemmas.Bool.Decides.{eqb_tells}
+use Rattle.endpoint_hub.specs.declared.journal.Taken.{Taken}
+use Rattle.endpoint_hub.specs.declared.journal.Handed.{Handed}
+use Rattle.endpoint_hub.specs.Rings.{ring_at, front_of, rings_with, rings_without_front}
+use Rattle.endpoint_hub.specs.Runs.{only, words_taken, times_handed}
+use Rattle.esi_base.specs.declared.word.Word.{Word}
+
+-- at the channel itself, `only` is the word
+only_same : (c d : ℕ) (w : Word) → c ≡ d → only c d w ≡ w ∷ []
+only_same c d w e = ap (λ b. cond b (w ∷ []) []) (eq-eqb c d e)
+
+-- at another channel, `only` is nothing
+only_other : (c d : ℕ) (w : Word) → c ≢ d → only c d w ≡ []
+only_other c d w ne = ap (λ b. cond b (w ∷ []) []) (ne_eqb c d ne)
+
+-- a word that joins a ring stands at its end, and all other rings stay
+pub ring_at-rings_with : (rings : List (List Word)) (c d : ℕ) (w : Word) → d < length rings → ring_at (rings_with rings d w) c ≡ ring_at rings c ++ only c d w
+ring_at-rings_with rings c d w lt =
+    elim (eqb_tells c d) [
+      | inl h ↦ rw (only_same c d w h.1, h.1) (get_or-set_same rings d (ring_at rings d ++ w ∷ []) [] lt)
+      | inr h ↦ rw (only_other c d w h.1, append-nil) (get_or-set_other rings d c (ring_at rings d ++ w ∷ []) [] h.1)
+    ]
+
+-- a list begins with the word that stands first in it
+front_splits : (xs : List Word) (w : Word) → slice_get xs 0 ≡ Some w → xs ≡ w ∷ drop 1 xs
+front_splits [] w e = cc
+front_splits (x ∷ xs) w e = cc
+
+-- only a channel that there is has a word in its ring
+front_within : (rings : List (List Word)) (d : ℕ) (w : Word) → front_of rings d ≡ Some w → d < length rings
+front_within rings d w e =
+    elim (cases_lt d (length rings)) [
+      | inl lt ↦ lt
+      | inr ge ↦ let past : ring_at rings d ≡ [] = get_or_past rings d [] ge in let none : None ≡ Some w = sym (ap (λ xs. slice_get xs 0) past) ∙ e in absurd (cc none)
+    ]
+
+-- the word that leaves a ring stood at its front, and all other rings stay
+pub ring_at-rings_without_front : (rings : List (List Word)) (c d : ℕ) (w : Word) → front_of rings d ≡ Some w → ring_at rings c ≡ only c d w ++ ring_at (rings_without_front rings d) c
+ring_at-rings_without_front rings c d w e =
+    elim (eqb_tells c d) [
+      | inl h ↦ rw (only_same c d w h.1, h.1, get_or-set_same rings d (drop 1 (ring_at rings d)) [] (front_within rings d w e)) (front_splits (ring_at rings d) w e)
+      | inr h ↦ rw (only_other c d w h.1) (sym (get_or-set_other rings d c (drop 1 (ring_at rings d)) [] h.1))
+    ]
+
+-- no word stands in new rings
+pub ring_at-replicate : (n c : ℕ) → ring_at (replicate n []) c ≡ []
+ring_at-replicate zero c = refl
+ring_at-replicate (suc n) zero = refl
+ring_at-replicate (suc n) (suc c) = ring_at-replicate n c
+
+-- a value noted last as taken is the last of its channel's
+pub words_taken-push : (c : ℕ) (xs : List Taken) (x : Taken) → words_taken c (xs ++ x ∷ []) ≡ words_taken c xs ++ only c x.channel x.word
+words_taken-push c [] x = append-nil (only c x.channel x.word)
+words_taken-push c (y ∷ xs) x =
+    ap (λ ws. only c y.channel y.word ++ ws) (words_taken-push c xs x) ∙ sym (append_assoc (only c y.channel y.word) (words_taken c xs) (only c x.channel x.word))
+
+-- `only` has one word or none
+length-only : (c d : ℕ) (w : Word) → length (only c d w) ≡ cond (eqb c d) 1 0
+length-only c d w = elim (eqb c d) as (λ b. length (cond b (w ∷ []) []) ≡ cond b 1 0) [ true ↦ refl | false ↦ refl ]
+
+-- a value noted last as handed is one more of its channel's
+pub times_handed-push : (c : ℕ) (xs : List Handed) (x : Handed) (w : Word) → times_handed c (xs ++ x ∷ []) ≡ times_handed c xs + length (only c x.channel w)
+times_handed-push c [] x w = rw (length-only c x.channel w) (omega arith)
+times_handed-push c (y ∷ xs) x w = omega (arith, times_handed-push c xs x w)
+
+-- a ring with a front is not empty
+pub front_stands : (rings : List (List Word)) (d : ℕ) (w : Word) → front_of rings d ≡ Some w → 0 < length (ring_at rings d)
+front_stands rings d w e = let split = ap length (front_splits (ring_at rings d) w e) in omega arith
+
+-- no call makes a ring or loses one
+pub length-rings_with : (rings : List (List Word)) (d : ℕ) (w : Word) → length (rings_with rings d w) ≡ length rings
+length-rings_with rings d w = length-set rings d (ring_at rings d ++ w ∷ [])
+
+pub length-rings_without_front : (rings : List (List Word)) (d : ℕ) → length (rings_without_front rings d) ≡ length rings
+length-rings_without_front rings d = length-set rings d (drop 1 (ring_at rings d))
+
+-- what a caller needs of a list of calls: the channels stay, and a ring with a front is not empty
+pub ruleset calls_of_rings = (front_stands, length-rings_with, length-rings_without_front)

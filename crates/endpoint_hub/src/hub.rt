@@ -1,0 +1,190 @@
+//! The rings of all channels and the journal.
+ghost use Rattle.std.specs.Prelude.{◌≡◌, ◌↔◌, ◌+◌, ◌-◌, ◌^◌, ◌<◌, ◌≤◌, [], length, replicate, nat_lt, IfOk, OnOk, OnErr, IsErrOf, IsTrue, OnSome, IfNone};
+ghost use Rattle.endpoint_hub.specs.Rings.{ring_at, front_of};
+ghost use Rattle.endpoint_hub.specs.Holdings.{IsNew, Puts, Pops, Pushes, Hands, BeginsCycle};
+
+use crate::journal::{Handed, Journal, Taken};
+use crate::limits::{RING_VALUES, SESSION_VALUES, SIDE_CHANNELS};
+use crate::ring::Ring;
+use esi_base::{List, NoMemory, Word};
+use std::alloc::Global;
+use std::marker::Model;
+
+/// Why a value was not put.
+#[derive(Clone, Copy, Debug, PartialEq, Eq)]
+pub enum PutStop {
+    /// The session has taken as many values as it ever takes.
+    SessionFull,
+    /// The channel's ring is full.
+    NoRoom,
+    /// Memory could not be had.
+    NoMemory,
+}
+
+/// The rings of all channels, a side each for the values that go to the netlist and for those that
+/// come from it, and the journal. Contracts see each ring as the list of the words in it, first the
+/// one that came first.
+#[derive(Drop)]
+pub struct Hub {
+    to_server: Vec<Ring>,
+    to_client: Vec<Ring>,
+    journal: Journal,
+}
+
+impl Model for Hub {
+    ghost use Rattle.std.specs.Prelude.{◌≤◌, length};
+    ghost use Rattle.endpoint_hub.specs.Holdings.{Holdings};
+    ghost use Rattle.endpoint_hub.specs.declared.limits.TheConstants.{SESSION_VALUES, SIDE_CHANNELS};
+
+    ghost Value = { Holdings };
+
+    ghost view = { λ h. record { to_server = h.to_server.items; to_client = h.to_client.items; journal = h.journal } };
+
+    ghost invariant = { λ h. (length h.to_server.items ≤ SIDE_CHANNELS) × (length h.to_client.items ≤ SIDE_CHANNELS) × (length h.journal.taken ≤ SESSION_VALUES) };
+}
+
+impl Hub {
+    /// A hub with an empty ring for each channel, before the first cycle. Each side has at most
+    /// `SIDE_CHANNELS` channels.
+    pub fn new(alloc: Global, to_server: u32, to_client: u32) -> Result<Hub, NoMemory>
+        requires to_server_count { to_server ≤ SIDE_CHANNELS }
+        requires to_client_count { to_client ≤ SIDE_CHANNELS }
+        ensures { IfOk result (λ hub. IsNew hub to_server to_client) }
+    {
+        Ok(Hub {
+            to_server: empty_rings(alloc, to_server)?,
+            to_client: empty_rings(alloc, to_client)?,
+            journal: Journal {
+                cycles: 0,
+                taken: List::new(alloc),
+                handed: List::new(alloc),
+                attached: List::new(alloc),
+            },
+        })
+    }
+
+    /// Takes a value for a to-server channel that the hub has: the value joins the end of its ring,
+    /// and the journal notes it with the cycle that runs, its connection and its stream. A value that
+    /// is refused changes nothing.
+    pub fn put(&mut self, channel: u32, conn: u32, stream: u32, word: Word) -> Result<(), PutStop>
+        requires { channel < length self.old.to_server }
+        ensures put { OnOk result (Puts self.old self.new channel conn stream word) }
+        ensures session_room { OnOk result (length self.old.journal.taken < SESSION_VALUES) }
+        ensures room { OnOk result (length (ring_at self.old.to_server channel) < RING_VALUES) }
+        ensures session_full { IsErrOf result PutStop.SessionFull
+            ↔ (length self.old.journal.taken ≡ SESSION_VALUES) }
+        ensures no_room { IsErrOf result PutStop.NoRoom
+            ↔ ((length self.old.journal.taken < SESSION_VALUES)
+            × (length (ring_at self.old.to_server channel) ≡ RING_VALUES)) }
+        ensures refused { OnErr result (self.new ≡ self.old) }
+    {
+        if self.journal.taken.len() >= SESSION_VALUES {
+            return Err(PutStop::SessionFull);
+        }
+        let ring = &mut self.to_server[channel as usize];
+        if ring.len() >= RING_VALUES {
+            return Err(PutStop::NoRoom);
+        }
+        let cycle = self.journal.cycles;
+        let taken = Taken {
+            cycle,
+            channel,
+            conn,
+            stream,
+            word,
+        };
+        if self.journal.taken.push(taken).is_err() {
+            return Err(PutStop::NoMemory);
+        }
+        ring.push(word);
+        Ok(())
+    }
+
+    /// The word that stands first in the ring of a to-server channel that the hub has; None exactly
+    /// where the ring is empty. It takes no memory.
+    pub fn front(&self, channel: u32) -> Option<Word>
+        requires { channel < length self.now.to_server }
+        ensures word { result ≡ front_of self.now.to_server channel }
+        ensures within { length (ring_at self.now.to_server channel) ≤ RING_VALUES }
+    {
+        self.to_server[channel as usize].front()
+    }
+
+    /// Takes the word that stands first out of the ring of a to-server channel, which is not empty.
+    /// It takes no memory.
+    pub fn pop(&mut self, channel: u32)
+        requires channel { channel < length self.old.to_server }
+        requires word { 0 < length (ring_at self.old.to_server channel) }
+        ensures { Pops self.old self.new channel }
+    {
+        let ring = &mut self.to_server[channel as usize];
+        let _front = ring.pop();
+    }
+
+    /// Whether the ring of a to-client channel that the hub has holds fewer words than it can. It
+    /// takes no memory.
+    pub fn has_room(&self, channel: u32) -> bool
+        requires { channel < length self.now.to_client }
+        ensures room { result ≡ nat_lt (length (ring_at self.now.to_client channel)) RING_VALUES }
+        ensures within { length (ring_at self.now.to_client channel) ≤ RING_VALUES }
+    {
+        self.to_client[channel as usize].len() < RING_VALUES
+    }
+
+    /// Adds a word at the end of the ring of a to-client channel, which has room. It takes no memory.
+    pub fn push(&mut self, channel: u32, word: Word)
+        requires channel { channel < length self.old.to_client }
+        requires room { length (ring_at self.old.to_client channel) < RING_VALUES }
+        ensures { Pushes self.old self.new channel word }
+    {
+        let ring = &mut self.to_client[channel as usize];
+        ring.push(word);
+    }
+
+    /// Hands out the word that stands first in the ring of a to-client channel that the hub has, and
+    /// notes it with the cycle that runs; None exactly where the ring is empty.
+    pub fn hand(&mut self, channel: u32) -> Result<Option<Word>, NoMemory>
+        requires { channel < length self.old.to_client }
+        ensures word { IfOk result (λ word. word ≡ front_of self.old.to_client channel) }
+        ensures handed { IfOk result (λ word. OnSome word (Hands self.old self.new channel)) }
+        ensures empty { IfOk result (λ word. IfNone word (self.new ≡ self.old)) }
+        ensures refused { OnErr result (self.new ≡ self.old) }
+    {
+        let ring = &mut self.to_client[channel as usize];
+        if ring.len() == 0 {
+            return Ok(None);
+        }
+        let cycle = self.journal.cycles;
+        if self.journal.handed.push(Handed { cycle, channel }).is_err() {
+            return Err(NoMemory);
+        }
+        Ok(ring.pop())
+    }
+
+    /// Ends the cycle that runs, of which fewer than 2^64 - 1 have ended.
+    pub fn next_cycle(&mut self)
+        requires { self.old.journal.cycles < 2 ^ 64 - 1 }
+        ensures { BeginsCycle self.old self.new }
+    {
+        self.journal.cycles += 1;
+    }
+
+    /// What the session has noted so far.
+    pub fn journal(&self) -> &Journal
+        ensures journal { result.now ≡ self.now.journal }
+        ensures within { length result.now.taken ≤ SESSION_VALUES }
+    {
+        &self.journal
+    }
+}
+
+/// As many empty rings as are asked for.
+fn empty_rings(alloc: Global, count: u32) -> Result<Vec<Ring>, NoMemory>
+    ensures { IfOk result (λ rings. rings.items ≡ replicate count []) }
+{
+    let mut rings = Vec::with_capacity(alloc, count as usize)?;
+    for made in 0..count {
+        rings.push(Ring::new(alloc)?)?;
+    }
+    Ok(rings)
+}

@@ -1,0 +1,50 @@
+-- A pipe as a row of cells, each with at most two words, its oldest first. All transfers of a cycle are judged on the cells
+-- as they were.
+use Rattle.std.specs.Prelude.{nat_lt, Bool, false, if◌then◌else◌, List, [], ◌∷◌, ◌++◌, length, drop, Option, None, option_to_list}
+use Rattle.cycle_rules.specs.Circuit.{Bits, Circuit}
+use Rattle.cycle_rules.specs.Lists.{first}
+
+-- a cell takes a word where it has fewer than two
+abbrev pub is_ready : List Bits → Bool
+is_ready cell = nat_lt (length cell) 2
+
+-- whether what stands behind takes a word: the next cell, or behind the last one the room in the ring
+abbrev pub next_ready : List (List Bits) → Bool → Bool
+next_ready [] room = room
+next_ready (cell ∷ cells) room = is_ready cell
+
+-- the word that comes out of the row: the last cell's first, and through no cell what was offered
+abbrev pub word_out : Option Bits → List (List Bits) → Option Bits
+word_out offered [] = offered
+word_out offered (cell ∷ cells) = word_out (first cell) cells
+
+-- a cell after a cycle: without its first word where what stands behind takes it, and with the word offered to it where it is ready
+abbrev pub cell_after : Option Bits → List Bits → Bool → List Bits
+cell_after offered cell gives = (if gives then drop 1 cell else cell) ++ (if is_ready cell then option_to_list offered else [])
+
+-- the row after a cycle
+abbrev pub row_after : Option Bits → List (List Bits) → Bool → List (List Bits)
+row_after offered [] room = []
+row_after offered (cell ∷ cells) room = cell_after offered cell (next_ready cells room) ∷ row_after (first cell) cells room
+
+-- the one channel's offer, and its room
+abbrev pub only_offer : List (Option Bits) → Option Bits
+only_offer [] = None
+only_offer (offer ∷ offers) = offer
+
+abbrev pub only_room : List Bool → Bool
+only_room [] = false
+only_room (room ∷ rooms) = room
+
+-- the row as a circuit of one channel each way
+abbrev pub pipe_circuit : Circuit (List (List Bits))
+pipe_circuit = record {
+  readies = λ cells offers rooms. next_ready cells (only_room rooms) ∷ [];
+  words = λ cells offers rooms. word_out (only_offer offers) cells ∷ [];
+  next = λ cells offers rooms. row_after (only_offer offers) cells (only_room rooms);
+}
+
+-- the words in the row, the oldest first: those of the last cell come first
+abbrev pub words_in : List (List Bits) → List Bits
+words_in [] = []
+words_in (cell ∷ cells) = words_in cells ++ cell
