@@ -1,0 +1,4 @@
+mod LineCases
+mod LineProofs
+mod StepLemmas
+mod TextLaws

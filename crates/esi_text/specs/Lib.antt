@@ -1,0 +1,9 @@
+pub mod DesignAnswers
+pub mod DesignGrammar
+pub mod DesignKinds
+pub mod DesignLaw
+pub mod DesignMeaning
+pub mod DesignPlaces
+pub mod DesignReading
+pub mod Stimulus
+pub mod StimulusLaws

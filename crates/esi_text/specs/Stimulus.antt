@@ -1,0 +1,90 @@
+-- What a stimulus text means, line by line.
+use Rattle.std.specs.Prelude.{ℕ, ◌≡◌, ◌+◌, nat_lt, nat_le, Option, Some, None, Result, Ok, Err, List, [], ◌∷◌, if◌then◌else◌, length, codes, ◌++◌, refl}
+use Rattle.std.specs.Str.{bytes_eq}
+use Rattle.esi_base.specs.declared.place.Refusal.{Refusal}
+use Rattle.small_text.specs.Lines.{Part, Line, place_of, lines, parts_from, numbered_from, counting_lines}
+use Rattle.small_text.specs.Numbers.{number_of}
+use Rattle.small_text.specs.Hexadecimal.{octets_of_digits, octets_of}
+use Rattle.esi_text.specs.declared.stimulus.Stimulus.{Stimulus}
+use Rattle.esi_text.specs.declared.stimulus.Step.{Step}
+use Rattle.esi_text.specs.declared.stimulus.Step.TheVariants.{Put, Run}
+
+infixl 10 ◌>>=◌
+-- A step that was refused refuses what stands on it.
+abbrev pub ◌>>=◌ : {A B : Type 0} → Result A Refusal → (A → Result B Refusal) → Result B Refusal
+(Ok a) >>= f = f a
+(Err e) >>= f = Err e
+
+-- A rule's number is told at a part of the line with a number.
+abbrev pub refused : {A : Type 0} → ℕ → ℕ → Part → Result A Refusal
+refused rule line part = Err (record { number = rule; place = place_of line part })
+
+-- What a line puts, where its second part is these octets or none.
+abbrev pub put_of : Line → Part → Part → Option (List ℕ) → Result Step Refusal
+put_of line name digits None = refused 223 line.number digits
+put_of line name digits (Some octets) =
+    Ok (Put name.octets octets (place_of line.number name) (place_of line.number digits))
+
+-- What a line runs, where its part is this number or none and so many cycles are run before it.
+abbrev pub run_of : ℕ → Line → Part → Option ℕ → Result Step Refusal
+run_of cycles line digits None = refused 223 line.number digits
+run_of cycles line digits (Some more) =
+    if nat_lt 1000000 (cycles + more) then refused 226 line.number line.word else Ok (Run more)
+
+-- A `put` line has a name and octets behind its first part; so many lines count before it.
+abbrev pub put_step : ℕ → Line → List Part → Result Step Refusal
+put_step lines line (name ∷ digits ∷ []) =
+    if nat_le 65536 lines then refused 226 line.number line.word
+    else put_of line name digits (octets_of digits.octets)
+put_step lines line _ = refused 222 line.number line.word
+
+-- A `run` line has a number behind its first part.
+abbrev pub run_step : ℕ → ℕ → Line → List Part → Result Step Refusal
+run_step lines cycles line (digits ∷ []) =
+    if nat_le 65536 lines then refused 226 line.number line.word
+    else run_of cycles line digits (number_of 4294967295 digits.octets)
+run_step lines cycles line _ = refused 222 line.number line.word
+
+-- What a line asks for, by its first part; so many lines count and so many cycles are run before it.
+unfoldable pub step_of : ℕ → ℕ → Line → Result Step Refusal
+step_of lines cycles line =
+    if bytes_eq line.word.octets (codes "put") then put_step lines line line.others
+    else (if bytes_eq line.word.octets (codes "run") then run_step lines cycles line line.others
+    else refused (if bytes_eq line.word.octets (codes "ready") then 219 else 221) line.number line.word)
+
+-- The cycles that a step runs.
+abbrev pub cycles_of : Step → ℕ
+cycles_of (Put _ _ _ _) = 0
+cycles_of (Run cycles) = cycles
+
+-- The steps of the lines that are left, behind so many lines and cycles.
+unfoldable pub steps_of : ℕ → ℕ → List Line → Result (List Step) Refusal
+steps_of lines cycles [] = Ok []
+steps_of lines cycles (line ∷ rest) = do
+  step ← step_of lines cycles line
+  steps ← steps_of (lines + 1) (cycles + cycles_of step) rest
+  Ok (step ∷ steps)
+
+-- A text that is too long is refused at its first octet.
+abbrev pub too_long_refusal : Refusal
+too_long_refusal = record { number = 210; place = record { line = 1; column = 1 } }
+
+-- A text of more than 4,194,304 octets is refused before any line is read.
+unfoldable pub stimulus_of : List ℕ → Result Stimulus Refusal
+stimulus_of text =
+    if nat_lt 4194304 (length text) then Err too_long_refusal
+    else (do
+      steps ← steps_of 0 0 (counting_lines text)
+      Ok (record { steps = steps }))
+
+-- Texts and what they mean: steps, or a refusal and its place.
+pub stimulus_examples :
+    (stimulus_of [] ≡ Ok (record { steps = [] }))
+    × (stimulus_of (codes "put in 05")
+    ≡ Ok (record { steps = Put (codes "in") (5 ∷ []) (record { line = 1; column = 5 }) (record { line = 1; column = 8 }) ∷ [] }))
+    × (stimulus_of (codes "push in 01") ≡ Err (record { number = 221; place = record { line = 1; column = 1 } }))
+    × (stimulus_of (codes "put in 0") ≡ Err (record { number = 223; place = record { line = 1; column = 8 } }))
+    × (stimulus_of (codes "run 01") ≡ Err (record { number = 223; place = record { line = 1; column = 5 } }))
+    × (stimulus_of (codes "run 1000000" ++ 10 ∷ codes "run 1") ≡ Err (record { number = 226; place = record { line = 2; column = 1 } }))
+unfolding stimulus_of steps_of step_of lines parts_from numbered_from octets_of_digits
+stimulus_examples = (refl, refl, refl, refl, refl, refl)

@@ -1,0 +1,126 @@
+-- What a stimulus is and what breaks its rules, line by line, whatever way it is read.
+use Rattle.std.specs.Prelude.{ℕ, ◌≡◌, ◌≢◌, ◌<◌, ◌≤◌, ◌⊎◌, Some, None, Result, Ok, Err, List, [], ◌∷◌, ◌++◌, if◌then◌else◌, length, codes, unwrap_or}
+use Rattle.std.specs.List.{sum_by, AllZip}
+use Rattle.std.specs.Str.{bytes_eq}
+use Rattle.esi_base.specs.declared.place.Place.{Place}
+use Rattle.esi_base.specs.declared.place.Refusal.{Refusal}
+use Rattle.esi_base.specs.declared.place.Stop.{Stop}
+use Rattle.esi_base.specs.declared.place.Stop.TheVariants.{Refused, NoMemory}
+use Rattle.small_text.specs.Lines.{Part, Line, place_of, counting_lines}
+use Rattle.small_text.specs.Numbers.{number_of}
+use Rattle.small_text.specs.Hexadecimal.{octets_of}
+use Rattle.esi_text.specs.declared.stimulus.Stimulus.{Stimulus}
+use Rattle.esi_text.specs.declared.stimulus.Step.{Step}
+use Rattle.esi_text.specs.declared.stimulus.Step.TheVariants.{Put, Run}
+use Rattle.esi_text.specs.Stimulus.{cycles_of}
+
+-- ---- a line and its step
+
+-- The line is `put NAME OCTETS`.
+pub record IsPut (line : Line) (name octets : List ℕ) (place octets_place : Place) : Type 0 where
+  pub second : Part
+  pub third : Part
+  pub word : line.word.octets ≡ codes "put"
+  pub parts : line.others ≡ second ∷ third ∷ []
+  pub name_is : second.octets ≡ name
+  pub octets_are : octets_of third.octets ≡ Some octets
+  pub place_is : place_of line.number second ≡ place
+  pub octets_place_is : place_of line.number third ≡ octets_place
+
+-- The line is `run N`.
+pub record IsRun (line : Line) (cycles : ℕ) : Type 0 where
+  pub second : Part
+  pub word : line.word.octets ≡ codes "run"
+  pub parts : line.others ≡ second ∷ []
+  pub number : number_of 4294967295 second.octets ≡ Some cycles
+
+-- The step is what the line says.
+abbrev pub StepOf : Line → Step → Type 0
+StepOf line (Put name octets place octets_place) = IsPut line name octets place octets_place
+StepOf line (Run cycles) = IsRun line cycles
+
+-- A text is a stimulus where each line that counts is a step, in order, and no limit is passed.
+pub record IsStimulus (text : List ℕ) (stimulus : Stimulus) : Type 0 where
+  pub short : length text ≤ 4194304
+  pub steps : AllZip StepOf (counting_lines text) stimulus.steps
+  pub few_lines : length (counting_lines text) ≤ 65536
+  pub few_cycles : sum_by cycles_of stimulus.steps ≤ 1000000
+
+-- ---- the rules
+
+-- The cycles that a line runs: its number where it is `run N`, and else none.
+abbrev pub cycles_behind : List Part → ℕ
+cycles_behind (part ∷ []) = unwrap_or (number_of 4294967295 part.octets) 0
+cycles_behind _ = 0
+
+abbrev pub cycles_in : Line → ℕ
+cycles_in line = if bytes_eq line.word.octets (codes "run") then cycles_behind line.others else 0
+
+-- The first part is no word of a stimulus.
+pub record IsUnknown (line : Line) : Type 0 where
+  pub not_put : line.word.octets ≢ codes "put"
+  pub not_run : line.word.octets ≢ codes "run"
+  pub not_ready : line.word.octets ≢ codes "ready"
+
+-- A `put` has two parts behind its first one, and a `run` has one; this line has not.
+abbrev pub IsMiscounted : Line → Type 0
+IsMiscounted line =
+    ((line.word.octets ≡ codes "put") × (length line.others ≢ 2)) ⊎ ((line.word.octets ≡ codes "run") × (length line.others ≢ 1))
+
+-- The third part of a `put` is no octets.
+pub record IsNoOctets (line : Line) (part : Part) : Type 0 where
+  pub name : Part
+  pub word : line.word.octets ≡ codes "put"
+  pub parts : line.others ≡ name ∷ part ∷ []
+  pub unread : octets_of part.octets ≡ None
+
+-- The second part of a `run` is no number.
+pub record IsNoNumber (line : Line) (part : Part) : Type 0 where
+  pub word : line.word.octets ≡ codes "run"
+  pub parts : line.others ≡ part ∷ []
+  pub unread : number_of 4294967295 part.octets ≡ None
+
+-- With this line the lines that count are more than 65,536, or run more than 1,000,000 cycles.
+abbrev pub PassesLimits : List Line → Line → Type 0
+PassesLimits before line = (65536 ≤ length before) ⊎ (1000000 < sum_by cycles_in (before ++ line ∷ []))
+
+-- A line breaks the rule of a number at one of its parts, behind the lines that count before it.
+pub data Breaks (before : List Line) (line : Line) : ℕ → Part → Type 0 where
+  not_built : line.word.octets ≡ codes "ready" → Breaks before line 219 line.word
+  unknown : IsUnknown line → Breaks before line 221 line.word
+  miscounted : IsMiscounted line → Breaks before line 222 line.word
+  no_octets : (part : Part) → IsNoOctets line part → Breaks before line 223 part
+  no_number : (part : Part) → IsNoNumber line part → Breaks before line 223 part
+  passes : PassesLimits before line → Breaks before line 226 line.word
+
+-- A line that breaks no rule.
+abbrev pub IsGood : List Line → Line → Type 0
+IsGood before line = (number : ℕ) (part : Part) → Breaks before line number part → ⊥
+
+-- Lines that break no rule, each behind those before it.
+abbrev pub AllGood : List Line → List Line → Type 0
+AllGood before [] = Unit {0}
+AllGood before (line ∷ rest) = IsGood before line × AllGood (before ++ line ∷ []) rest
+
+-- One break is told before another: at a smaller column, or at the same one with a smaller number.
+abbrev pub NoLater : ℕ → Part → ℕ → Part → Type 0
+NoLater number part other other_part =
+    (part.column < other_part.column) ⊎ ((part.column ≡ other_part.column) × (number ≤ other))
+
+-- The refusal tells the first break of the first line that breaks a rule.
+pub record FirstBreak (lines : List Line) (refusal : Refusal) : Type 0 where
+  pub before : List Line
+  pub line : Line
+  pub behind : List Line
+  pub part : Part
+  pub split : lines ≡ before ++ line ∷ behind
+  pub good : AllGood [] before
+  pub breaks : Breaks before line refusal.number part
+  pub place : refusal.place ≡ place_of line.number part
+  pub first : (number : ℕ) (other : Part) → Breaks before line number other → NoLater refusal.number part number other
+
+-- What holds of the refusal, where a reader refuses.
+abbrev pub IfRefused : {T : Type 0} → Result T Stop → (Refusal → Type 0) → Type 0
+IfRefused (Ok _) P = Unit {0}
+IfRefused (Err (Refused refusal)) P = P refusal
+IfRefused (Err NoMemory) P = Unit {0}
