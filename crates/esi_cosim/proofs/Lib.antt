@@ -1,0 +1,7 @@
+pub mod DrivesLemmas
+pub mod HexLemmas
+pub mod TextLemmas
+pub mod JudgedLemmas
+pub mod ToldLemmas
+pub mod EndsLemmas
+pub mod UsageLemmas
