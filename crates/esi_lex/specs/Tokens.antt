@@ -5,7 +5,7 @@ use Rattle.std.specs.Char.{is_ascii_digit}
 use Rattle.esi_lex.specs.Octet.{begins_word, is_word_octet, is_hex_digit, is_sign, begins_gap}
 use Rattle.esi_lex.specs.Digits.{value, value_below, has_leading_zero}
 use Rattle.esi_lex.specs.declared.token.Class.{Class}
-use Rattle.esi_lex.specs.declared.token.Class.TheVariants.{Unsigned, Signed, Bits}
+use Rattle.esi_lex.specs.declared.token.Class.TheVariants.{Unsigned, Signed, Plain}
 use Rattle.esi_lex.specs.declared.token.Fault.TheVariants.{UnknownOctet, LongWord, BadNumber}
 use Rattle.esi_lex.specs.declared.token.Token.{Token}
 use Rattle.esi_lex.specs.declared.token.Token.TheVariants.{Word, TypeWord, Number, Sign, Faulty, End}
@@ -48,7 +48,7 @@ unfoldable pub word_token : List ℕ → Token
 word_token word =
     if slice_index word 0 == 117 && slice_index word 1 == 105 && are_digits (drop 2 word) then type_word Unsigned (drop 2 word)
     else (if slice_index word 0 == 115 && slice_index word 1 == 105 && are_digits (drop 2 word) then type_word Signed (drop 2 word)
-    else (if slice_index word 0 == 105 && are_digits (drop 1 word) then type_word Bits (drop 1 word)
+    else (if slice_index word 0 == 105 && are_digits (drop 1 word) then type_word Plain (drop 1 word)
     else plain_word word))
 
 -- the token that a text begins with, the longest one, and the count of its octets

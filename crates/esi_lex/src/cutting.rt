@@ -78,7 +78,7 @@ fn word_token<'a>(word: &'a [u8]) -> Token<'a>
     match word {
         [b'u', b'i', digits @ ..] if are_digits(digits) => type_word(Class::Unsigned, digits),
         [b's', b'i', digits @ ..] if are_digits(digits) => type_word(Class::Signed, digits),
-        [b'i', digits @ ..] if are_digits(digits) => type_word(Class::Bits, digits),
+        [b'i', digits @ ..] if are_digits(digits) => type_word(Class::Plain, digits),
         _ => plain_word(word),
     }
 }

@@ -43,7 +43,7 @@ fn texts_are_cut_into_tokens(rt: HostRuntime) -> Result<(), Fail> {
         ("2x 0xF 0X1 0xfg", "#2 x !203 F #0 X1 #15 g "),
         (
             "ui1024 ui1025 si99999999999999999999 i0 i",
-            "Unsigned:1024 Unsigned:1025 Signed:1025 Bits:0 i ",
+            "Unsigned:1024 Unsigned:1025 Signed:1025 Plain:0 i ",
         ),
         ("ui08 si00 i01 ui8a ui_ uI8", "!203 !203 !203 ui8a ui_ uI8 "),
         ("a//b @\nc // d", "a c "),

@@ -41,7 +41,7 @@ pub enum Class {
     /// `si`
     Signed,
     /// `i`
-    Bits,
+    Plain,
 }
 
 /// Why octets are no token of the design text.

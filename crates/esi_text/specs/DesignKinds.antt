@@ -6,7 +6,7 @@ use Rattle.grammar_law.specs.Kinds.{among}
 use Rattle.esi_lex.specs.declared.token.Token.{Token}
 use Rattle.esi_lex.specs.declared.token.Token.TheVariants.{Word, TypeWord, Number, Sign, Faulty, End}
 use Rattle.esi_lex.specs.declared.token.Class.{Class}
-use Rattle.esi_lex.specs.declared.token.Class.TheVariants.{Unsigned, Signed, Bits}
+use Rattle.esi_lex.specs.declared.token.Class.TheVariants.{Unsigned, Signed, Plain}
 use Rattle.esi_lex.specs.Refused.{fault_number}
 use Rattle.esi_text.specs.declared.design.kind.Kind.{Kind}
 use Rattle.esi_text.specs.declared.design.kind.Kind.TheVariants.{Nothing, Esi, One, OtherNumber, Semicolon, Pipe, OctetType, Stages, Item, OtherType, Name, OtherSign}
@@ -40,7 +40,7 @@ word_kind word =
 abbrev pub type_kind : Class → ℕ → Kind
 type_kind Unsigned width = if width == 8 then OctetType else OtherType
 type_kind Signed width = OtherType
-type_kind Bits width = OtherType
+type_kind Plain width = OtherType
 
 -- the kind of a token
 abbrev pub kind_of : Token → Kind

@@ -12,7 +12,7 @@ use Rattle.grammar_law.specs.Readers.{Reader, pure, ◌>>=◌, ◌>>◌}
 use Rattle.grammar_law.specs.Bridge.{Sees, seen, leaf_by, told_so, took_seen, map_seen, seq_seen}
 use Rattle.esi_lex.specs.declared.token.Token.{Token}
 use Rattle.esi_lex.specs.declared.token.Token.TheVariants.{Word, TypeWord, Number, Sign, Faulty, End}
-use Rattle.esi_lex.specs.declared.token.Class.TheVariants.{Unsigned, Signed, Bits}
+use Rattle.esi_lex.specs.declared.token.Class.TheVariants.{Unsigned, Signed, Plain}
 use Rattle.esi_lex.specs.Tokens.{Lexeme}
 use Rattle.esi_text.specs.declared.design.kind.Kind.{Kind}
 use Rattle.esi_text.specs.declared.design.kind.Kind.TheVariants.{Esi, One, OtherNumber, Semicolon, Pipe, OctetType, Stages, Item, OtherType, Name, OtherSign}
@@ -82,7 +82,7 @@ number_each ((span, Number n) ∷ ts) = by_test (eqb n 1)
 number_each ((span, Word w) ∷ ts) = rw (word_no_number w).fact refl
 number_each ((span, TypeWord Unsigned n) ∷ ts) = let e : IsNoNumber (cond (eqb n 8) OctetType OtherType) = neither (eqb n 8) OctetType OtherType (record { fact = refl }) (record { fact = refl }) in rw e.fact refl
 number_each ((span, TypeWord Signed n) ∷ ts) = refl
-number_each ((span, TypeWord Bits n) ∷ ts) = refl
+number_each ((span, TypeWord Plain n) ∷ ts) = refl
 number_each ((span, Sign b) ∷ ts) = let e : IsNoNumber (cond (eqb b 59) Semicolon OtherSign) = neither (eqb b 59) Semicolon OtherSign (record { fact = refl }) (record { fact = refl }) in rw e.fact refl
 number_each ((span, Faulty f) ∷ ts) = refl
 number_each ((span, End) ∷ ts) = refl
