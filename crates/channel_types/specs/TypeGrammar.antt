@@ -1,0 +1,112 @@
+-- The grammar of type texts, as data:
+--
+--     type = typeword | "void" | "struct" "<" name ":" type { "," name ":" type } ">" | "array" "<" type "," count ">"
+--
+-- At most 16 types may be open at a place. A type is judged when its last token was read.
+use Rattle.std.specs.Prelude.{◌≡◌, ℕ, zero, suc, Bool, true, false, nat_lt, ◌==◌, ◌||◌, if◌then◌else◌, List, [], ◌∷◌, ◌++◌, map}
+use Rattle.grammar_law.specs.Lexemes.{Lexeme, Lexemes}
+use Rattle.grammar_law.specs.Rule.{Kinds, Rule, Tree, Grammar, ◌⟫◌}
+use Rattle.grammar_law.specs.Rule.Rule.{one, alt, star, call, judged}
+use Rattle.grammar_law.specs.Kinds.{first, second, inside}
+use Rattle.grammar_law.specs.Trees.{Fault, Judges}
+use Rattle.grammar_law.specs.Bridge.{leaf_by, either, items}
+use Rattle.grammar_law.specs.Looser.{no_judge}
+use Rattle.grammar_law.specs.Laws.{Limits}
+use Rattle.esi_lex.specs.declared.token.Token.{Token}
+use Rattle.esi_lex.specs.declared.token.Token.TheVariants.{End}
+use Rattle.esi_lex.specs.declared.token.Class.{Class}
+use Rattle.design_tokens.specs.declared.kind.Kind.{Kind}
+use Rattle.design_tokens.specs.declared.kind.Kind.TheVariants.{Name, TypeWord, Less, Greater, Colon, Comma, Void, Struct, Array}
+use Rattle.design_tokens.specs.Kinds.{code, counts, refusal}
+use Rattle.design_tokens.specs.Grammar.{kind_code, sample, word_in, number_in, width_in}
+use Rattle.channel_types.specs.declared.esi_type.EsiType.{EsiType}
+use Rattle.channel_types.specs.declared.esi_type.EsiType.TheVariants as V
+use Rattle.channel_types.specs.declared.esi_type.EsiType.TheOpen.{EsiType-F}
+use Rattle.channel_types.specs.declared.esi_type.EsiType.TheViews.{out-EsiType}
+use Rattle.channel_types.specs.declared.esi_type.Field.{Field}
+use Rattle.channel_types.specs.Types.{width_of, level_names, has_repeat}
+
+-- a token of one kind
+abbrev pub token : Kind → Rule
+token kind = one (code kind ∷ [])
+
+-- a type inside a type
+abbrev pub a_type : Rule
+a_type = call 0
+
+abbrev pub field_rule : Rule
+field_rule = token Name ⟫ token Colon ⟫ a_type
+
+abbrev pub struct_rule : Rule
+struct_rule = token Struct ⟫ token Less ⟫ field_rule ⟫ star (token Comma ⟫ field_rule) ⟫ token Greater
+
+abbrev pub array_rule : Rule
+array_rule = token Array ⟫ token Less ⟫ a_type ⟫ token Comma ⟫ one counts ⟫ token Greater
+
+-- one level of a type
+abbrev pub level_rule : Rule
+level_rule = alt (token TypeWord) (alt (token Void) (alt struct_rule array_rule))
+
+abbrev pub type_rule : Rule
+type_rule = judged 0 level_rule
+
+-- the kinds with which a type begins
+abbrev pub type_starts : Kinds
+type_starts = code TypeWord ∷ code Void ∷ code Struct ∷ code Array ∷ []
+
+-- 103 where a type would be the 17th one open
+abbrev pub types : Grammar Token
+types = record {
+  kind = kind_code;
+  at_end = End;
+  sample = sample;
+  calls = 0 ∷ [];
+  body = λ n. type_rule;
+  starts = λ n. type_starts;
+  goes = λ n. [];
+  ends = λ n t. [];
+  refusal = refusal;
+  limit = λ n. 103;
+}
+
+-- The number of the refusal of a type all of whose parts are good: 101 for a width of 0 or above 1,024, then 102 for a
+-- repeated field name, and 0 for none.
+abbrev pub judge_of : EsiType → ℕ
+judge_of ty =
+    if width_of ty == 0 || nat_lt 1024 (width_of ty) then 101
+    else (if has_repeat (level_names (out-EsiType ty)) then 102 else 0)
+
+-- What a type's tree is worth: the type, and the offset behind its last octet. `inner` is that of the types in it.
+abbrev pub Found : Type 0
+Found = EsiType × ℕ
+
+abbrev pub end_in : Tree Token → ℕ
+end_in t = leaf_by types (λ x. x.0.1) t
+
+module _ (inner : Tree Token → Found) where
+  abbrev pub field_in : Tree Token → Field
+  field_in t = record { name = leaf_by types (λ x. word_in x.1) (first t); ty = (inner (second (second t))).0 }
+
+  abbrev pub struct_in : Tree Token → Found
+  struct_in t = (V.Struct (field_in (first t) ∷ items (λ w. field_in (second w)) (first (second t))), end_in (second (second t)))
+
+  abbrev pub array_in : Tree Token → Found
+  array_in t = (V.Array (inner (first t)).0 (leaf_by types (λ x. number_in x.1) (first (second (second t)))), end_in (second (second (second t))))
+
+  abbrev pub level_in : Tree Token → Found
+  level_in =
+      either (leaf_by types (λ x. (V.Bits (width_in x.1).0 (width_in x.1).1, x.0.1)))
+      (either (λ t. (V.Void, end_in t)) (either (λ t. struct_in (second (second t))) (λ t. array_in (second (second t)))))
+
+-- to that many levels
+abbrev pub type_of : ℕ → Tree Token → Found
+type_of zero t = (V.Void, 0)
+type_of (suc d) t = level_in (type_of d) (inside (inside t))
+
+-- a level is judged by what it is worth
+abbrev pub type_judge : ℕ → Judges Token
+type_judge d c t = judge_of (level_in (type_of d) t).0
+
+-- at most 16 types inside one another
+abbrev pub type_limits : Limits Token
+type_limits = record { depth = 16; judges = type_judge; judge = no_judge }

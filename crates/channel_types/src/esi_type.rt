@@ -1,0 +1,26 @@
+//! The types of channels.
+use esi_base::Octets;
+use esi_lex::Class;
+use sqlite_items::{Boxed, Items};
+
+/// What a channel carries.
+#[cycle(types)]
+#[derive(Debug, Drop)]
+pub enum EsiType {
+    /// A number of so many bits, of a class.
+    Bits { class: Class, width: u32 },
+    /// Nothing but that something came: one bit that is 0.
+    Void,
+    /// A value for each field, in order.
+    Struct(Items<Field>),
+    /// So many values of one type.
+    Array { item: Boxed<EsiType>, count: u32 },
+}
+
+/// A field of a struct.
+#[cycle(types)]
+#[derive(Debug, Drop)]
+pub struct Field {
+    pub name: Octets,
+    pub ty: EsiType,
+}

@@ -1,0 +1,11 @@
+//! Channel types: what a channel carries, how wide it is, and the text of a type (docs/design-text.md).
+#![tactic(auto)]
+
+mod copy;
+pub mod esi_type;
+mod printing;
+mod same;
+mod width;
+
+pub use esi_lex::Class;
+pub use esi_type::{EsiType, Field};

@@ -1,0 +1,10 @@
+use Rattle.std.proofs.Common.{◌≡◌, Ok, refl, ap, sym, ◌∙◌}
+use Rattle.design_tokens.specs.Took.{took_made, took_refused, fails_with, worth_is}
+use Rattle.design_tokens.specs.Grammar.{width_in}
+use Rattle.design_tokens.proofs.reading.type_word.Goals as goal
+
+pub returns-then-not-is_same : goal.returns-then-not-is_same
+returns-then-not-is_same c = fails_with _ _ _ (took_refused _ _ _ c.args.cursor.now (cc)) c.refuse.ensures
+
+pub returns : goal.returns
+returns c = took_made _ _ (λ x. (width_in x.1, x.0.1)) c.args.cursor.now (cc) ∙ (let e = worth_is width_in c.args.cursor.now in cc)

@@ -1,0 +1,68 @@
+-- One token taken or refused, said of the token that a cursor shows.
+use Rattle.std.proofs.Common.{◌≡◌, ℕ, ◌<◌, ◌^◌, ◌==◌, Bool, true, false, List, [], ◌∷◌, Option, Some, None, Ok, Err, refl, sym, ap, ◌∙◌, subst, arith, if◌then◌else◌, nat_lt}
+use Rattle.std.proofs.lemmas.Grind.{common_steps}
+use Rattle.grammar_law.specs.Rule.{Kinds}
+use Rattle.grammar_law.specs.Kinds.{among, first_token, first_lexeme}
+use Rattle.grammar_law.specs.Lexemes.{rest}
+use Rattle.grammar_law.specs.Trees.{Fault}
+use Rattle.grammar_law.specs.Readers.{Read, Fails, took, took_any, refused}
+use Rattle.grammar_law.specs.Among.{by_true, by_false}
+use Rattle.esi_lex.specs.Tokens.{Lexeme, others}
+use Rattle.esi_lex.specs.Tokens as lex
+use Rattle.esi_lex.specs.declared.token.Token.{Token}
+use Rattle.esi_lex.specs.declared.token.Token.TheVariants.{Word, TypeWord as WidthWord, Number, Sign, Faulty, End}
+use Rattle.design_tokens.specs.declared.kind.Kind.{Kind}
+use Rattle.design_tokens.specs.declared.kind.Kind.TheVariants.{One, Small, Great}
+use Rattle.design_tokens.specs.Kinds.{code, counts, kind_of, number_kind}
+use Rattle.design_tokens.specs.Grammar.{kind_code, token_grammar, number_in}
+
+pub first_is : (ts : List Lexeme) → first_token token_grammar ts ≡ lex.first_token ts
+first_is [] = refl
+first_is (x ∷ ts) = refl
+
+pub rest_is : (ts : List Lexeme) → rest ts ≡ others ts
+rest_is [] = refl
+rest_is (x ∷ ts) = refl
+
+-- what a token is worth, seen by the lexeme that comes first
+pub worth_is : {A : Type 0} (f : Token → A) (ts : List Lexeme) → f (first_lexeme token_grammar ts).1 ≡ f (lex.first_token ts)
+worth_is f [] = refl
+worth_is f (x ∷ ts) = refl
+
+pub took_made : {A : Type 0} (wanted : Kinds) (k : ℕ) (view : Lexeme → A) (ts : List Lexeme) → (kind_code (lex.first_token ts) == k) ≡ true
+    → took token_grammar wanted k view ts ≡ Ok (view (first_lexeme token_grammar ts), others ts)
+unfolding took
+took_made wanted k view ts e = by_true _ _ _ (ap (λ t. kind_code t == k) (first_is ts) ∙ e) ∙ ap (λ us. Ok (view (first_lexeme token_grammar ts), us)) (rest_is ts)
+
+pub took_refused : {A : Type 0} (wanted : Kinds) (k : ℕ) (view : Lexeme → A) (ts : List Lexeme) → (kind_code (lex.first_token ts) == k) ≡ false
+    → took token_grammar wanted k view ts ≡ Err (refused token_grammar wanted ts)
+unfolding took
+took_refused wanted k view ts e = by_false _ _ _ (ap (λ t. kind_code t == k) (first_is ts) ∙ e)
+
+pub any_made : {A : Type 0} (wanted ks : Kinds) (view : Lexeme → A) (ts : List Lexeme) → among ks (kind_code (lex.first_token ts)) ≡ true
+    → took_any token_grammar wanted ks view ts ≡ Ok (view (first_lexeme token_grammar ts), others ts)
+unfolding took_any
+any_made wanted ks view ts e = by_true _ _ _ (ap (λ t. among ks (kind_code t)) (first_is ts) ∙ e) ∙ ap (λ us. Ok (view (first_lexeme token_grammar ts), us)) (rest_is ts)
+
+pub any_refused : {A : Type 0} (wanted ks : Kinds) (view : Lexeme → A) (ts : List Lexeme) → among ks (kind_code (lex.first_token ts)) ≡ false
+    → took_any token_grammar wanted ks view ts ≡ Err (refused token_grammar wanted ts)
+unfolding took_any
+any_refused wanted ks view ts e = by_false _ _ _ (ap (λ t. among ks (kind_code t)) (first_is ts) ∙ e)
+
+-- a refusal that the code tells
+pub fails_with : {A : Type 0} (read : Read Token A) (f : Fault) (o : Option Fault) → read ≡ Err f → o ≡ Some f → Fails read o
+fails_with read f o e d = subst (λ z. Fails read z) (sym d) e
+
+-- a count is below 2^32
+pub count_small : (t : Token) → among counts (kind_code t) ≡ true → number_in t < 2 ^ 32
+count_small (Number n) e = of (n == 1) (nat_lt n (2 ^ 32)) refl refl e
+  where
+    of : (a b : Bool) → (n == 1) ≡ a → nat_lt n (2 ^ 32) ≡ b → among counts (code (if a then One else (if b then Small else Great))) ≡ true → n < 2 ^ 32
+    of true b p q h = grind arith
+    of false true p q h = grind (arith, common_steps)
+    of false false p q h = absurd (cc)
+count_small (Word w) e = omega arith
+count_small (WidthWord c w) e = omega arith
+count_small (Sign b) e = omega arith
+count_small (Faulty f) e = omega arith
+count_small End e = omega arith
