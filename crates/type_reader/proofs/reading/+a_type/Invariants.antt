@@ -1,0 +1,30 @@
+use Rattle.std.proofs.Common.{ℕ, ◌+◌, ◌*◌, [], ◌∷◌, length}
+use Rattle.grammar_law.specs.Turns.{Turning}
+use Rattle.channel_types.specs.TypeGrammar.{types}
+use Rattle.type_reader.specs.TypeReading as spec
+use Rattle.type_reader.proofs.reading.+a_type.Given as goal
+
+abbrev pub decreases-type_at : goal.decreases-type_at
+decreases-type_at l = 5 * l.levels
+
+abbrev pub decreases-level : goal.decreases-level
+decreases-level l = 5 * l.levels + 4
+
+abbrev pub decreases-struct_type : goal.decreases-struct_type
+decreases-struct_type l = 5 * l.levels + 3
+
+abbrev pub decreases-array_type : goal.decreases-array_type
+decreases-array_type l = 5 * l.levels + 3
+
+abbrev pub decreases-more_fields : goal.decreases-more_fields
+decreases-more_fields l = 5 * l.levels + 2
+
+abbrev pub decreases-field : goal.decreases-field
+decreases-field l = 5 * l.levels + 1
+
+abbrev pub invariant-more_fields-loop-alloc : goal.invariant-more_fields-loop-alloc
+invariant-more_fields-loop-alloc l =
+    Turning types (8 ∷ []) (spec.one_more (spec.type_at l.levels)) (l.fn.first ∷ []) l.initial.cursor l.fields l.cursor
+
+abbrev pub decreases-more_fields-loop-alloc : goal.decreases-more_fields-loop-alloc
+decreases-more_fields-loop-alloc l = length l.cursor

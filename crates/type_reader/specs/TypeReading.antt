@@ -1,0 +1,73 @@
+-- What the readers of types answer, as functions of the lexemes that are left.
+use Rattle.std.specs.Prelude.{◌≡◌, ℕ, zero, suc, List, [], ◌∷◌, ◌++◌, Option, Some, None, Ok, Err, if◌then◌else◌}
+use Rattle.grammar_law.specs.Lexemes.{first_place}
+use Rattle.grammar_law.specs.Kinds.{among, first_kind}
+use Rattle.grammar_law.specs.Readers.{Reader, refuse, pure, ◌>>=◌, ◌>>◌, on, all_onto, judging}
+use Rattle.esi_lex.specs.declared.token.Token.{Token}
+use Rattle.design_tokens.specs.declared.kind.Kind.TheVariants.{TypeWord, Less, Greater, Colon, Comma, Void, Struct, Array}
+use Rattle.design_tokens.specs.Kinds.{code}
+use Rattle.design_tokens.specs.Grammar.{expect, name, count, type_word}
+use Rattle.channel_types.specs.declared.esi_type.EsiType.TheVariants as V
+use Rattle.channel_types.specs.declared.esi_type.Field.{Field}
+use Rattle.channel_types.specs.TypeGrammar.{types, type_starts, judge_of, Found}
+
+-- a type word
+unfoldable pub bits : Reader Token Found
+bits = type_word >>= λ word. pure (V.Bits word.0.0 word.0.1, word.1)
+
+unfoldable pub void : Reader Token Found
+void = expect Void >>= λ end. pure (V.Void, end)
+
+-- `inner` reads the types that stand in a type
+module _ (inner : Reader Token Found) where
+  unfoldable pub field : Reader Token Field
+  field = do
+    n ← name
+    expect Colon
+    found ← inner
+    pure (record { name = n; ty = found.0 })
+
+  -- one more field behind a comma
+  unfoldable pub one_more : List Field → Reader Token (List Field)
+  one_more front = expect Comma >> (field >>= λ f. pure (front ++ f ∷ []))
+
+  -- the first field and all those behind commas
+  abbrev pub more_fields : Field → Reader Token (List Field)
+  more_fields f = all_onto types (code Comma ∷ []) one_more (f ∷ [])
+
+  unfoldable pub struct_type : Reader Token Found
+  struct_type = do
+    expect Struct
+    expect Less
+    f ← field
+    fields ← more_fields f
+    end ← expect Greater
+    pure (V.Struct fields, end)
+
+  unfoldable pub array_type : Reader Token Found
+  array_type = do
+    expect Array
+    expect Less
+    item ← inner
+    expect Comma
+    n ← count
+    end ← expect Greater
+    pure (V.Array item.0 n, end)
+
+  -- one level of a type
+  unfoldable pub level : Reader Token Found
+  level = on types (code TypeWord) bits (on types (code Void) void (on types (code Struct) struct_type array_type))
+
+-- where no further type may be open
+unfoldable pub too_deep : Reader Token Found
+too_deep ts = if among type_starts (first_kind types ts) then Err (record { number = 103; at = first_place ts }) else refuse types (code TypeWord ∷ []) ts
+
+-- a type, with at most that many open at a place
+unfoldable pub type_at : ℕ → Reader Token Found
+type_at zero = too_deep
+type_at (suc levels) = judging (λ found. judge_of found.0) (level (type_at levels))
+
+-- the number that code tells, 0 for none
+abbrev pub number_in : Option ℕ → ℕ
+number_in None = 0
+number_in (Some number) = number

@@ -1,0 +1,154 @@
+//! The readers of the grammar's parts. Each reads from the next token on, and goes past what it read.
+ghost use Rattle.std.specs.Prelude.{◌≡◌, ◌-◌, [], ◌∷◌, IfOk};
+ghost use Rattle.grammar_law.specs.Kinds.{among};
+ghost use Rattle.grammar_law.specs.Readers.{Fails};
+ghost use Rattle.design_tokens.specs.Grammar.{AnswersAt, told};
+ghost use Rattle.design_tokens.specs.Kinds as kinds;
+ghost use Rattle.channel_types.specs.TypeGrammar.{type_starts};
+ghost use Rattle.type_reader.specs.TypeReading as spec;
+
+use crate::judging::judge;
+use channel_types::{EsiType, Field};
+use design_tokens::reading::{count, expect, name, refuse, type_word};
+use design_tokens::{Fault, Halt, Kind, is_same, kind_of};
+use esi_lex::Cursor;
+use sqlite_items::{Boxed, Items};
+use std::alloc::Global;
+
+/// A type word: the type, and the offset behind it.
+#[tactic(auto, unfolding(crate::specs::TypeReading::bits))]
+fn bits(cursor: &mut Cursor<'_>) -> Result<(EsiType, usize), Halt>
+    ensures { AnswersAt (spec.bits cursor.old) result cursor.new }
+{
+    let ((class, width), end) = type_word(cursor)?;
+    Ok((EsiType::Bits { class, width }, end))
+}
+
+#[tactic(auto, unfolding(crate::specs::TypeReading::void))]
+fn void(cursor: &mut Cursor<'_>) -> Result<(EsiType, usize), Halt>
+    ensures { AnswersAt (spec.void cursor.old) result cursor.new }
+{
+    let end = expect(cursor, Kind::Void)?;
+    Ok((EsiType::Void, end))
+}
+
+fn begins_type(kind: Kind) -> bool
+    ensures { result ≡ among type_starts (kinds.code kind) }
+{
+    matches!(
+        kind,
+        Kind::TypeWord | Kind::Void | Kind::Struct | Kind::Array
+    )
+}
+
+/// The halt where no further type may be open: 103 where one begins.
+#[tactic(auto, unfolding(crate::specs::TypeReading::too_deep))]
+fn too_deep(cursor: &Cursor<'_>) -> Halt
+    ensures { Fails (spec.too_deep cursor.now) (told result) }
+{
+    if begins_type(kind_of(cursor.peek())) {
+        return Halt::Refused(Fault {
+            number: 103,
+            at: cursor.token_begin(),
+        });
+    }
+    refuse(cursor, Kind::TypeWord)
+}
+
+/// A type, with at most so many open at a place, itself counted: the type, and the offset behind it.
+#[cycle(a_type)]
+#[tactic(auto, unfolding(crate::specs::TypeReading::type_at))]
+pub fn type_at(
+    cursor: &mut Cursor<'_>,
+    alloc: Global,
+    levels: u32,
+) -> Result<(EsiType, usize), Halt>
+    ensures { AnswersAt (spec.type_at levels cursor.old) result cursor.new }
+{
+    if levels == 0 {
+        return Err(too_deep(cursor));
+    }
+    let begin = cursor.token_begin();
+    let found = level(cursor, alloc, levels - 1)?;
+    match judge(alloc, &found.0)? {
+        None => Ok(found),
+        Some(number) => Err(Halt::Refused(Fault { number, at: begin })),
+    }
+}
+
+/// One level of a type; in it so many levels may be open.
+#[cycle(a_type)]
+#[tactic(auto, unfolding(crate::specs::TypeReading::level))]
+fn level(cursor: &mut Cursor<'_>, alloc: Global, levels: u32) -> Result<(EsiType, usize), Halt>
+    ensures { AnswersAt (spec.level (spec.type_at levels) cursor.old) result cursor.new }
+{
+    match kind_of(cursor.peek()) {
+        Kind::TypeWord => bits(cursor),
+        Kind::Void => void(cursor),
+        Kind::Struct => struct_type(cursor, alloc, levels),
+        _ => array_type(cursor, alloc, levels),
+    }
+}
+
+#[cycle(a_type)]
+#[tactic(auto, unfolding(crate::specs::TypeReading::field))]
+fn field(cursor: &mut Cursor<'_>, alloc: Global, levels: u32) -> Result<Field, Halt>
+    ensures { AnswersAt (spec.field (spec.type_at levels) cursor.old) result cursor.new }
+{
+    let name = name(cursor, alloc)?;
+    expect(cursor, Kind::Colon)?;
+    let (ty, _) = type_at(cursor, alloc, levels)?;
+    Ok(Field { name, ty })
+}
+
+/// All fields of a struct, of which the first was read.
+#[cycle(a_type)]
+fn more_fields(
+    cursor: &mut Cursor<'_>,
+    alloc: Global,
+    levels: u32,
+    first: Field,
+) -> Result<Items<Field>, Halt>
+    ensures { AnswersAt (spec.more_fields (spec.type_at levels) first cursor.old) result cursor.new }
+{
+    let mut fields = Items::new(alloc);
+    fields.push(first)?;
+    while is_same(kind_of(cursor.peek()), Kind::Comma) {
+        expect(cursor, Kind::Comma)?;
+        let field = field(cursor, alloc, levels)?;
+        fields.push(field)?;
+    }
+    Ok(fields)
+}
+
+#[cycle(a_type)]
+#[tactic(auto, unfolding(crate::specs::TypeReading::struct_type))]
+fn struct_type(
+    cursor: &mut Cursor<'_>,
+    alloc: Global,
+    levels: u32,
+) -> Result<(EsiType, usize), Halt>
+    ensures { AnswersAt (spec.struct_type (spec.type_at levels) cursor.old) result cursor.new }
+{
+    expect(cursor, Kind::Struct)?;
+    expect(cursor, Kind::Less)?;
+    let first = field(cursor, alloc, levels)?;
+    let fields = more_fields(cursor, alloc, levels, first)?;
+    let end = expect(cursor, Kind::Greater)?;
+    Ok((EsiType::Struct(fields), end))
+}
+
+#[cycle(a_type)]
+#[tactic(auto, unfolding(crate::specs::TypeReading::array_type))]
+fn array_type(cursor: &mut Cursor<'_>, alloc: Global, levels: u32) -> Result<(EsiType, usize), Halt>
+    ensures { AnswersAt (spec.array_type (spec.type_at levels) cursor.old) result cursor.new }
+{
+    expect(cursor, Kind::Array)?;
+    expect(cursor, Kind::Less)?;
+    let (item, _) = type_at(cursor, alloc, levels)?;
+    expect(cursor, Kind::Comma)?;
+    let count = count(cursor)?;
+    let end = expect(cursor, Kind::Greater)?;
+    let item = Boxed::new(alloc, item)?;
+    Ok((EsiType::Array { item, count }, end))
+}
