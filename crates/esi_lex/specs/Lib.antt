@@ -7,3 +7,6 @@ pub mod Steps
 pub mod Cuts
 pub mod CutLaw
 pub mod CutOnly
+pub mod Spellings
+pub mod PrintedDigits
+pub mod Printed

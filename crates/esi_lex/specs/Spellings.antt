@@ -1,0 +1,21 @@
+-- How the tokens of a design text are spelled.
+use Rattle.std.specs.Prelude.{◌≡◌, ℕ, true, List, [], ◌∷◌, slice_index}
+use Rattle.std.specs.List.{list_all}
+use Rattle.esi_lex.specs.Octet.{begins_word, is_word_octet}
+use Rattle.esi_lex.specs.Tokens.{word_token}
+use Rattle.esi_lex.specs.declared.token.Class.{Class}
+use Rattle.esi_lex.specs.declared.token.Class.TheVariants.{Unsigned, Signed, Plain}
+use Rattle.esi_lex.specs.declared.token.Token.TheVariants.{Word}
+
+-- Octets that are a word token: they begin with a letter or `_`, go on with letters, digits and `_`, are no type word
+-- and not too many. Of a word that is known each field is `refl`, under `unfolding word_token`.
+pub record IsWordText (w : List ℕ) : Type 0 where
+  pub begins : begins_word (slice_index w 0) ≡ true
+  pub octets : list_all is_word_octet w ≡ true
+  pub spells : word_token w ≡ Word w
+
+-- the letters of a class
+abbrev pub class_letters : Class → List ℕ
+class_letters Unsigned = 117 ∷ (105 ∷ [])
+class_letters Signed = 115 ∷ (105 ∷ [])
+class_letters Plain = 105 ∷ []
