@@ -10,3 +10,4 @@ pub mod CutOnly
 pub mod Spellings
 pub mod PrintedDigits
 pub mod Printed
+pub mod WordTexts
