@@ -321,6 +321,10 @@ cut_by (suc fuel) at (b ∷ text) h =
       | inr e ↦ cut_more fuel at (b ∷ text) o h e (cut_by fuel)
     ]
 
+-- The lexemes of a text are its cut, whatever the offset of its first octet is.
+pub lexemes_cut : (text : List ℕ) (at : ℕ) → IsCut at text (lexemes_from 0 false at text)
+lexemes_cut text at = cut_by (length text) at text (omega arith)
+
 -- The lexemes of a text from an offset on are its cut.
 pub tokens_cut : (text : List ℕ) (at : ℕ) → IsCut at (drop at text) (tokens text at)
-tokens_cut text at = cut_by (length (drop at text)) at (drop at text) (omega arith)
+tokens_cut text at = lexemes_cut (drop at text) at

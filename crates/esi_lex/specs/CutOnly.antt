@@ -32,7 +32,7 @@ front_is [] behind = refl
 front_is (b ∷ run) behind = ap (λ (z : List ℕ). b ∷ z) (front_is run behind)
 
 -- what passes a test is none of the octets that do not
-not_at : (test : ℕ → Bool) (b k : ℕ) → test b ≡ true → test k ≡ false → eqb b k ≡ false
+pub not_at : (test : ℕ → Bool) (b k : ℕ) → test b ≡ true → test k ≡ false → eqb b k ≡ false
 not_at test b k h n =
     elim (answers (eqb b k)) [
       | inl e ↦ (let same : b ≡ k = eqb-true b k e in let wrong : test k ≡ true = subst (λ (z : ℕ). test z ≡ true) same h in cc)
@@ -201,12 +201,12 @@ first_line [] rest e = absurd (omega arith)
 first_line (b ∷ line) rest e = e
 
 -- a blank is passed
-blank_step : (b : ℕ) (text : List ℕ) (at : ℕ) → is_blank b ≡ true → lexemes_from 0 false at (b ∷ text) ≡ lexemes_from 0 false (at + 1) text
+pub blank_step : (b : ℕ) (text : List ℕ) (at : ℕ) → is_blank b ≡ true → lexemes_from 0 false at (b ∷ text) ≡ lexemes_from 0 false (at + 1) text
 unfolding lexemes_from
 blank_step b text at f = rw (f, blank_no_slash b f) refl
 
 -- nothing is left at the end
-no_more : (at : ℕ) → lexemes_from 0 false at [] ≡ []
+pub no_more : (at : ℕ) → lexemes_from 0 false at [] ≡ []
 unfolding lexemes_from
 no_more at = refl
 
@@ -230,18 +230,23 @@ gap_skips at (last_comment line f o) =
 long : (octets behind : List ℕ) → 0 < length octets → 0 < length (octets ++ behind)
 long octets behind h = simp length-append (omega arith)
 
+-- the octets of a token are cut off the front of a text as that token, whatever stands behind them
+pub token_cut : {octets tail : List ℕ} {t : Token} (at : ℕ) → IsToken octets tail t → lexemes_from 0 false at (octets ++ tail) ≡ ((at, at + length octets), t) ∷ lexemes_from 0 false (at + length octets) tail
+token_cut {octets} {tail} {t} at h =
+    let c = token_is h in
+    let step = token_more (octets ++ tail) at (t, length octets) (long octets tail c.some) c.gapless c.is c.some in
+    let left : drop (length octets) (octets ++ tail) ≡ tail = drop-append_seam octets tail in
+    step ∙ ap (λ (z : List ℕ). lexeme_at at (t, length octets) ∷ lexemes_from 0 false (at + length octets) z) left
+
 -- each cut of a text has the text's lexemes
 pub cut_only : {at : ℕ} {text : List ℕ} {ts : List Lexeme} → IsCut at text ts → ts ≡ lexemes_from 0 false at text
 cut_only (ended at text g) = sym (ap (lexemes_from 0 false at) (sym (append-nil text)) ∙ (gap_skips at g ∙ no_more (at + length text)))
 cut_only (goes_on at text behind x rest b c) =
-    let t = token_is b.is_token in
     let here : ℕ = at + length b.gap in
-    let step = token_more (b.octets ++ behind) here (x.1, length b.octets) (long b.octets behind t.some) t.gapless t.is t.some in
-    let left : drop (length b.octets) (b.octets ++ behind) ≡ behind = drop-append_seam b.octets behind in
     let skipped : lexemes_from 0 false at text ≡ lexemes_from 0 false here (b.octets ++ behind) = ap (lexemes_from 0 false at) b.parts ∙ gap_skips at b.is_gap in
     let end : x.0.1 ≡ here + length b.octets = ap (λ (s : ℕ × ℕ). s.1) b.span in
-    let later : rest ≡ lexemes_from 0 false (here + length b.octets) (drop (length b.octets) (b.octets ++ behind)) = cut_only c ∙ (ap (λ (n : ℕ). lexemes_from 0 false n behind) end ∙ ap (lexemes_from 0 false (here + length b.octets)) (sym left)) in
-    ap (λ (s : ℕ × ℕ). (s, x.1) ∷ rest) b.span ∙ (ap (λ (ts : List Lexeme). lexeme_at here (x.1, length b.octets) ∷ ts) later ∙ sym (skipped ∙ step))
+    let later : rest ≡ lexemes_from 0 false (here + length b.octets) behind = cut_only c ∙ ap (λ (n : ℕ). lexemes_from 0 false n behind) end in
+    ap (λ (s : ℕ × ℕ). (s, x.1) ∷ rest) b.span ∙ (ap (λ (ts : List Lexeme). lexeme_at here (x.1, length b.octets) ∷ ts) later ∙ sym (skipped ∙ token_cut here b.is_token))
 
 -- A text has no other cut than its lexemes.
 pub tokens_only : (text : List ℕ) (at : ℕ) (ts : List Lexeme) → IsCut at (drop at text) ts → ts ≡ tokens text at

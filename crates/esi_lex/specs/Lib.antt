@@ -7,3 +7,7 @@ pub mod Steps
 pub mod Cuts
 pub mod CutLaw
 pub mod CutOnly
+pub mod Spellings
+pub mod PrintedDigits
+pub mod Printed
+pub mod WordTexts
