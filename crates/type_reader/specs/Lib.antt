@@ -1,2 +1,3 @@
 pub mod TypeReading
 pub mod TypeLaw
+pub mod TypeSteps

@@ -1,12 +1,14 @@
 -- What the readers of types answer, as functions of the lexemes that are left.
-use Rattle.std.specs.Prelude.{◌≡◌, ℕ, zero, suc, List, [], ◌∷◌, ◌++◌, Option, Some, None, Ok, Err, if◌then◌else◌}
+use Rattle.std.specs.Prelude.{◌≡◌, ℕ, zero, suc, List, [], ◌∷◌, ◌++◌, Option, Some, None, Result, Ok, Err, ◌==◌, if◌then◌else◌}
 use Rattle.grammar_law.specs.Lexemes.{first_place}
 use Rattle.grammar_law.specs.Kinds.{among, first_kind}
-use Rattle.grammar_law.specs.Readers.{Reader, refuse, pure, ◌>>=◌, ◌>>◌, on, all_onto, judging}
+use Rattle.grammar_law.specs.Readers.{Read, Reader, Fails, refuse, pure, ◌>>=◌, ◌>>◌, on, all_onto, judging}
 use Rattle.esi_lex.specs.declared.token.Token.{Token}
 use Rattle.design_tokens.specs.declared.kind.Kind.TheVariants.{TypeWord, Less, Greater, Colon, Comma, Void, Struct, Array}
 use Rattle.design_tokens.specs.Kinds.{code}
-use Rattle.design_tokens.specs.Grammar.{expect, name, count, type_word}
+use Rattle.design_tokens.specs.Grammar.{expect, name, count, type_word, told}
+use Rattle.design_tokens.specs.declared.reading.Halt.{Halt}
+use Rattle.esi_lex.specs.Tokens.{Lexeme}
 use Rattle.channel_types.specs.declared.esi_type.EsiType.TheVariants as V
 use Rattle.channel_types.specs.declared.esi_type.Field.{Field}
 use Rattle.channel_types.specs.TypeGrammar.{types, type_starts, judge_of, Found}
@@ -67,7 +69,11 @@ unfoldable pub type_at : ℕ → Reader Token Found
 type_at zero = too_deep
 type_at (suc levels) = judging (λ found. judge_of found.0) (level (type_at levels))
 
--- the number that code tells, 0 for none
-abbrev pub number_in : Option ℕ → ℕ
-number_in None = 0
-number_in (Some number) = number
+-- the number of a refusal as code tells it, none for 0
+abbrev pub number_told : ℕ → Option ℕ
+number_told n = if n == 0 then None else Some n
+
+-- What a function answered that adds to a value, against a do-block: the value and rest that it left, or the refusal.
+abbrev pub AddsAt : {A B : Type 0} → Read Token A → Result B Halt → A → List Lexeme → Type 0
+AddsAt read (Ok done) value new = read ≡ Ok (value, new)
+AddsAt read (Err halt) value new = Fails read (told halt)

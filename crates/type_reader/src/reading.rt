@@ -82,11 +82,15 @@ pub fn type_at(
 fn level(cursor: &mut Cursor<'_>, alloc: Global, levels: u32) -> Result<(EsiType, usize), Halt>
     ensures { AnswersAt (spec.level (spec.type_at levels) cursor.old) result cursor.new }
 {
-    match kind_of(cursor.peek()) {
-        Kind::TypeWord => bits(cursor),
-        Kind::Void => void(cursor),
-        Kind::Struct => struct_type(cursor, alloc, levels),
-        _ => array_type(cursor, alloc, levels),
+    let kind = kind_of(cursor.peek());
+    if is_same(kind, Kind::TypeWord) {
+        bits(cursor)
+    } else if is_same(kind, Kind::Void) {
+        void(cursor)
+    } else if is_same(kind, Kind::Struct) {
+        struct_type(cursor, alloc, levels)
+    } else {
+        array_type(cursor, alloc, levels)
     }
 }
 
@@ -99,6 +103,23 @@ fn field(cursor: &mut Cursor<'_>, alloc: Global, levels: u32) -> Result<Field, H
     expect(cursor, Kind::Colon)?;
     let (ty, _) = type_at(cursor, alloc, levels)?;
     Ok(Field { name, ty })
+}
+
+/// One more field behind a comma.
+#[cycle(a_type)]
+#[tactic(auto, unfolding(crate::specs::TypeReading::one_more))]
+fn one_more(
+    cursor: &mut Cursor<'_>,
+    alloc: Global,
+    levels: u32,
+    fields: &mut Items<Field>,
+) -> Result<(), Halt>
+    ensures { spec.AddsAt (spec.one_more (spec.type_at levels) fields.old cursor.old) result fields.new cursor.new }
+{
+    expect(cursor, Kind::Comma)?;
+    let field = field(cursor, alloc, levels)?;
+    fields.push(field)?;
+    Ok(())
 }
 
 /// All fields of a struct, of which the first was read.
@@ -114,9 +135,7 @@ fn more_fields(
     let mut fields = Items::new(alloc);
     fields.push(first)?;
     while is_same(kind_of(cursor.peek()), Kind::Comma) {
-        expect(cursor, Kind::Comma)?;
-        let field = field(cursor, alloc, levels)?;
-        fields.push(field)?;
+        one_more(cursor, alloc, levels, &mut fields)?;
     }
     Ok(fields)
 }
