@@ -1,3 +1,4 @@
 pub mod TypeReading
 pub mod TypeLaw
 pub mod TypeSteps
+pub mod TypeMeaning

@@ -48,7 +48,7 @@ unfolding took_any
 any_same wanted ks view ts = refl
 
 -- where no name, count or version alone may stand, the number is the same whatever else may
-told_alike : (wanted others : Kinds) → ((k : ℕ) → unwanted_number wanted k ≡ unwanted_number others k) → AreTold types wanted others
+pub told_alike : (wanted others : Kinds) → ((k : ℕ) → unwanted_number wanted k ≡ unwanted_number others k) → AreTold types wanted others
 told_alike wanted others e = record { same = each }
   where
     each : (t : Token) → refusal wanted t ≡ refusal others t

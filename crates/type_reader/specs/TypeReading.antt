@@ -1,14 +1,16 @@
 -- What the readers of types answer, as functions of the lexemes that are left.
 use Rattle.std.specs.Prelude.{◌≡◌, ℕ, zero, suc, List, [], ◌∷◌, ◌++◌, Option, Some, None, Result, Ok, Err, ◌==◌, if◌then◌else◌}
 use Rattle.grammar_law.specs.Lexemes.{first_place}
+use Rattle.grammar_law.specs.Trees.{Fault}
 use Rattle.grammar_law.specs.Kinds.{among, first_kind}
-use Rattle.grammar_law.specs.Readers.{Read, Reader, Fails, refuse, pure, ◌>>=◌, ◌>>◌, on, all_onto, judging}
+use Rattle.grammar_law.specs.Readers.{Read, Reader, Fails, ended, refuse, pure, ◌>>=◌, ◌>>◌, on, all_onto, judging}
 use Rattle.esi_lex.specs.declared.token.Token.{Token}
-use Rattle.design_tokens.specs.declared.kind.Kind.TheVariants.{TypeWord, Less, Greater, Colon, Comma, Void, Struct, Array}
+use Rattle.design_tokens.specs.declared.kind.Kind.TheVariants.{Nothing, TypeWord, Less, Greater, Colon, Comma, Void, Struct, Array}
 use Rattle.design_tokens.specs.Kinds.{code}
-use Rattle.design_tokens.specs.Grammar.{expect, name, count, type_word, told}
+use Rattle.design_tokens.specs.Grammar.{expect, name, count, type_word, told, fault_of}
 use Rattle.design_tokens.specs.declared.reading.Halt.{Halt}
-use Rattle.esi_lex.specs.Tokens.{Lexeme}
+use Rattle.design_tokens.specs.declared.reading.Halt.TheVariants.{Refused, NoMemory}
+use Rattle.esi_lex.specs.Tokens.{Lexeme, tokens}
 use Rattle.channel_types.specs.declared.esi_type.EsiType.TheVariants as V
 use Rattle.channel_types.specs.declared.esi_type.Field.{Field}
 use Rattle.channel_types.specs.TypeGrammar.{types, type_starts, judge_of, Found}
@@ -77,3 +79,18 @@ number_told n = if n == 0 then None else Some n
 abbrev pub AddsAt : {A B : Type 0} → Read Token A → Result B Halt → A → List Lexeme → Type 0
 AddsAt read (Ok done) value new = read ≡ Ok (value, new)
 AddsAt read (Err halt) value new = Fails read (told halt)
+
+-- the type of a whole text, and the offset behind it
+abbrev pub whole_text : List ℕ → Result Found Fault
+whole_text text = ended types (code Nothing ∷ []) (type_at 16 (tokens text 0))
+
+-- the code answers so, wherever it left the cursor
+abbrev pub Gives : {A : Type 0} → Read Token A → Result A Halt → Type 0
+Gives read (Ok x) = (rest : List Lexeme) × (read ≡ Ok (x, rest))
+Gives read (Err halt) = Fails read (told halt)
+
+-- the code answers so of a whole text
+abbrev pub Answers : {A : Type 0} → Result A Fault → Result A Halt → Type 0
+Answers read (Ok x) = read ≡ Ok x
+Answers read (Err (Refused fault)) = read ≡ Err (fault_of fault)
+Answers read (Err NoMemory) = Unit {0}

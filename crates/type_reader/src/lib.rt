@@ -2,4 +2,9 @@
 #![tactic(auto)]
 
 mod judging;
+pub mod read;
 pub mod reading;
+#[cfg(test)]
+mod tests;
+
+pub use read::{parse_type, read_type};

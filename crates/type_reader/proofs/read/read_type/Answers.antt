@@ -1,0 +1,15 @@
+use Rattle.std.proofs.Common.{◌≡◌, sym}
+use Rattle.type_reader.specs.TypeMeaning.{at_found, at_refused, at_one, at_none}
+use Rattle.type_reader.proofs.read.read_type.Goals as goal
+
+pub returns-in-Ok-clause-found : goal.returns-in-Ok-clause-found
+returns-in-Ok-clause-found c = at_found c.args.text.now c.args.at c.in-Ok.found c.in-Ok.ensures.0 c.in-Ok.ensures.1
+
+pub returns-in-Ok-clause-only : goal.returns-in-Ok-clause-only
+returns-in-Ok-clause-only c = λ found o. at_one c.args.text.now c.args.at c.in-Ok.found found c.in-Ok.ensures.0 c.in-Ok.ensures.1 o
+
+pub returns-in-Err-Refused-clause-only : goal.returns-in-Err-Refused-clause-only
+returns-in-Err-Refused-clause-only c = λ found o. ?
+
+pub returns-in-Err-Refused-clause-refused : goal.returns-in-Err-Refused-clause-refused
+returns-in-Err-Refused-clause-refused c = ?

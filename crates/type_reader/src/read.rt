@@ -1,0 +1,112 @@
+//! The type of a text.
+ghost use Rattle.std.specs.Prelude.{◌≡◌, ◌≤◌, ◌<◌, ◌-◌, ◌^◌, length, IfOk};
+ghost use Rattle.esi_lex.specs.Tokens.{tokens};
+ghost use Rattle.design_tokens.specs.Grammar.{fault_of};
+ghost use Rattle.channel_types.specs.Types.{IsGoodType};
+ghost use Rattle.channel_types.specs.TypeGrammar.{Found};
+ghost use Rattle.channel_types.specs.TypeAnswers as answers;
+ghost use Rattle.channel_types.specs.TypeAnswers.{IsTypeAt, IsTypeText, StopsToBeType, IfRefused, OkUnlessMemory};
+ghost use Rattle.type_reader.specs.TypeReading as reading;
+ghost use Rattle.type_reader.specs.TypeReading.{Gives, Answers, whole_text};
+
+use crate::reading::type_at;
+use channel_types::EsiType;
+use design_tokens::reading::refuse;
+use design_tokens::{Fault, Halt, Kind};
+use esi_base::{Place, Refusal, Stop};
+use esi_lex::Cursor;
+use std::alloc::Global;
+
+/// How many types may be open at a place of a text.
+const MOST_OPEN: u32 = 16;
+
+/// The place of an offset, or of the text's end.
+fn place_in(text: &[u8], at: Option<usize>) -> Place
+    requires { length text.now < 2 ^ 32 - 1 }
+    ensures { result ≡ answers.place_in text.now at }
+{
+    Place::at_offset(text, at.unwrap_or(text.len()).min(text.len()))
+}
+
+/// A fault, told by line and column.
+fn refusal_at(text: &[u8], fault: Fault) -> Refusal
+    requires { length text.now < 2 ^ 32 - 1 }
+    ensures { result ≡ answers.refusal_at text.now (fault_of fault) }
+{
+    Refusal {
+        number: fault.number,
+        place: place_in(text, fault.at),
+    }
+}
+
+/// The type that stands at an offset, and the offset behind it.
+fn found_at(alloc: Global, text: &[u8], at: usize) -> Result<(EsiType, usize), Halt>
+    requires { at ≤ length text.now }
+    ensures { Gives (reading.type_at 16 (tokens text.now at)) result }
+{
+    let mut cursor = Cursor::from_offset(text, at);
+    type_at(&mut cursor, alloc, MOST_OPEN)
+}
+
+/// The type of a whole text, and the offset behind it.
+fn whole(alloc: Global, text: &[u8]) -> Result<(EsiType, usize), Halt>
+    ensures { Answers (whole_text text.now) result }
+{
+    let mut cursor = Cursor::new(text);
+    let found = type_at(&mut cursor, alloc, MOST_OPEN)?;
+    if !cursor.is_at_end() {
+        return Err(refuse(&cursor, Kind::Nothing));
+    }
+    Ok(found)
+}
+
+/// Reads one type of a text, from an offset on: the type, and the offset behind its last octet. What
+/// stands behind it is not looked at. A text has at most 67,108,864 octets.
+///
+/// It is refused at the first token with which no type goes on, at its first octet or at the end:
+///
+/// - 201 an octet that begins no token, 202 a word above 64 octets, 203 a bad number, or an array's
+///   count above 2^32 - 1;
+/// - 206 the end of the text, where more is needed;
+/// - 207 a keyword or a type word where a field's name is due;
+/// - 205 any other token;
+///
+/// or where a limit is broken, the first of them, innermost first:
+///
+/// - 103 at the first token of a 17th type inside one another;
+/// - 101 at the first octet of a type of width 0 or above 1,024 bits, judged when it was read;
+/// - 102 at the first octet of a struct with two fields of one name, judged after its width.
+pub fn read_type(alloc: Global, text: &[u8], at: usize) -> Result<(EsiType, usize), Stop>
+    requires within { at ≤ length text.now }
+    requires small { length text.now ≤ 67108864 }
+    // What is read stands there, and what stands there is read, unless memory runs out.
+    ensures found { IfOk result (IsTypeAt text.now at) }
+    ensures only { (found : Found) → IsTypeAt text.now at found → OkUnlessMemory found result }
+
+    // All else is refused where it stops to be a type.
+    ensures refused { IfRefused result (StopsToBeType text.now at) }
+{
+    match found_at(alloc, text, at) {
+        Ok(found) => Ok(found),
+        Err(Halt::Refused(fault)) => Err(Stop::Refused(refusal_at(text, fault))),
+        Err(Halt::NoMemory) => Err(Stop::NoMemory),
+    }
+}
+
+/// Reads a whole text as a type. Refusals are those of `read_type`, and 205 (or 201, 202, 203) at a
+/// token behind the type. A text has at most 67,108,864 octets.
+pub fn parse_type(alloc: Global, text: &[u8]) -> Result<EsiType, Stop>
+    requires { length text.now ≤ 67108864 }
+    // What is read is the text's type, and each text of a type is read, unless memory runs out.
+    ensures found { IfOk result (IsTypeText text.now) }
+    ensures only { (ty : EsiType) → IsTypeText text.now ty → OkUnlessMemory ty result }
+
+    // All else is refused where it stops to be the text of a type.
+    ensures refused { IfRefused result (StopsToBeType text.now 0) }
+{
+    match whole(alloc, text) {
+        Ok((ty, _)) => Ok(ty),
+        Err(Halt::Refused(fault)) => Err(Stop::Refused(refusal_at(text, fault))),
+        Err(Halt::NoMemory) => Err(Stop::NoMemory),
+    }
+}
