@@ -1,5 +1,7 @@
 pub mod Types
 pub mod Text
+pub mod Equations
+pub mod Goods
 pub mod TypeGrammar
 pub mod Decided
 pub mod TypeAnswers

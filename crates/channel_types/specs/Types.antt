@@ -1,5 +1,5 @@
 -- How wide a type is and how deep it nests, and which types are good.
-use Rattle.std.specs.Prelude.{◌≡◌, ℕ, Bool, ◌+◌, ◌*◌, ◌≤◌, true, false, ◌||◌, List, [], ◌∷◌, sum, map, max, All}
+use Rattle.std.specs.Prelude.{◌≡◌, ℕ, Bool, ◌+◌, ◌*◌, ◌≤◌, false, ◌||◌, List, [], ◌∷◌, sum, map, max, All}
 use Rattle.std.specs.List.{sum_by}
 use Rattle.std.specs.Str.{bytes_eq}
 use Rattle.design_tokens.specs.Names.{IsName}

@@ -3,9 +3,11 @@
 
 mod copy;
 pub mod esi_type;
+mod names;
 mod printing;
 mod same;
 mod width;
 
 pub use esi_lex::Class;
 pub use esi_type::{EsiType, Field};
+pub use names::names_repeat;
