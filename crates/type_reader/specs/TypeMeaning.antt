@@ -21,11 +21,15 @@ use Rattle.esi_lex.specs.Tokens.{tokens}
 use Rattle.esi_lex.specs.declared.token.Token.{Token}
 use Rattle.design_tokens.specs.declared.kind.Kind.TheVariants.{Nothing}
 use Rattle.design_tokens.specs.Kinds.{code, unwanted}
+use Rattle.design_tokens.specs.Grammar.{told, fault_of}
+use Rattle.design_tokens.specs.declared.reading.Fault as code_fault
+use Rattle.design_tokens.specs.declared.reading.Halt.{Halt}
+use Rattle.design_tokens.specs.declared.reading.Halt.TheVariants as HaltCases
 use Rattle.channel_types.specs.declared.esi_type.EsiType.{EsiType}
 use Rattle.channel_types.specs.TypeGrammar.{types, type_judge, type_of, Found}
 use Rattle.channel_types.specs.Decided.{type_calls}
 use Rattle.channel_types.specs.TypeAnswers.{IsTypeTree, TypeBreak, IsTypeAt, IsTypeText, refusal_at, StopsToBeType, IfRefused, OkUnlessMemory}
-use Rattle.type_reader.specs.TypeReading.{type_at, whole_text}
+use Rattle.type_reader.specs.TypeReading.{type_at, whole_text, Answers}
 use Rattle.type_reader.specs.TypeLaw.{env, type_seen, told_alike}
 
 all : (d : ℕ) → Readable types no_judge (TowerTree types all_own type_judge (shut types) NoTree (TooDeep types) d) (TypeBreak d) (env d)
@@ -104,3 +108,10 @@ text_one text a ty e o = ap (λ x. x.0) (one_whole a (type_of 16 o.tree) (sym e 
 
 pub text_none : (text : List ℕ) (f : Fault) (ty : EsiType) → whole_text text ≡ Err f → IsTypeText text ty → ⊥
 text_none text f ty e o = not_refused_whole (type_of 16 o.tree) f (sym (text_only text ty o) ∙ e)
+
+-- a refusal that the code tells
+pub told_fails : (read : Read Token Found) (halt : Halt) (fault : code_fault.Fault) → Fails read (told halt) → halt ≡ HaltCases.Refused fault → read ≡ Err (fault_of fault)
+told_fails read halt fault h e = subst (λ z. Fails read (told z)) e h
+
+pub told_whole : (read : Result Found Fault) (halt : Halt) (fault : code_fault.Fault) → Answers {A = Found} read (Err halt) → halt ≡ HaltCases.Refused fault → read ≡ Err (fault_of fault)
+told_whole read halt fault h e = subst (λ z. Answers {A = Found} read (Err z)) e h

@@ -1,5 +1,6 @@
-use Rattle.std.proofs.Common.{◌≡◌, sym}
-use Rattle.type_reader.specs.TypeMeaning.{at_found, at_refused, at_one, at_none}
+use Rattle.std.proofs.Common.{◌≡◌, sym, subst}
+use Rattle.type_reader.specs.TypeMeaning.{at_found, at_refused, at_one, at_none, told_fails}
+use Rattle.channel_types.specs.TypeAnswers.{StopsToBeType}
 use Rattle.type_reader.proofs.read.read_type.Goals as goal
 
 pub returns-in-Ok-clause-found : goal.returns-in-Ok-clause-found
@@ -9,7 +10,10 @@ pub returns-in-Ok-clause-only : goal.returns-in-Ok-clause-only
 returns-in-Ok-clause-only c = λ found o. at_one c.args.text.now c.args.at c.in-Ok.found found c.in-Ok.ensures.0 c.in-Ok.ensures.1 o
 
 pub returns-in-Err-Refused-clause-only : goal.returns-in-Err-Refused-clause-only
-returns-in-Err-Refused-clause-only c = λ found o. ?
+returns-in-Err-Refused-clause-only c = λ found o.
+    at_none c.args.text.now c.args.at _ found (told_fails _ c.in-Err-Refused.field-0 c.in-Err-Refused.fault c.in-Err-Refused.ensures c.in-Err-Refused.field-0-is) o
 
 pub returns-in-Err-Refused-clause-refused : goal.returns-in-Err-Refused-clause-refused
-returns-in-Err-Refused-clause-refused c = ?
+returns-in-Err-Refused-clause-refused c =
+    subst (λ r. StopsToBeType c.args.text.now c.args.at r) (sym c.refusal_at.ensures)
+    (at_refused c.args.text.now c.args.at _ (told_fails _ c.in-Err-Refused.field-0 c.in-Err-Refused.fault c.in-Err-Refused.ensures c.in-Err-Refused.field-0-is))
