@@ -85,6 +85,9 @@ pub fn read_type(alloc: Global, text: &[u8], at: usize) -> Result<(EsiType, usiz
 
     // All else is refused where it stops to be a type.
     ensures refused { IfRefused result (StopsToBeType text.now at) }
+
+    // What is read is good.
+    ensures good { IfOk result (λ found. IsGoodType found.0) }
 {
     match found_at(alloc, text, at) {
         Ok(found) => Ok(found),
@@ -103,6 +106,9 @@ pub fn parse_type(alloc: Global, text: &[u8]) -> Result<EsiType, Stop>
 
     // All else is refused where it stops to be the text of a type.
     ensures refused { IfRefused result (StopsToBeType text.now 0) }
+
+    // What is read is good.
+    ensures good { IfOk result IsGoodType }
 {
     match whole(alloc, text) {
         Ok((ty, _)) => Ok(ty),

@@ -1,6 +1,7 @@
 use Rattle.std.proofs.Common.{◌≡◌, sym, subst}
 use Rattle.channel_types.specs.TypeAnswers.{StopsToBeType}
 use Rattle.type_reader.specs.TypeMeaning.{text_found, text_refused, text_one, text_none, told_whole}
+use Rattle.type_reader.specs.GoodTypes.{text_good}
 use Rattle.type_reader.proofs.read.parse_type.Goals as goal
 
 pub returns-in-Ok-clause-found : goal.returns-in-Ok-clause-found
@@ -17,3 +18,6 @@ pub returns-in-Err-Refused-clause-refused : goal.returns-in-Err-Refused-clause-r
 returns-in-Err-Refused-clause-refused c =
     subst (λ r. StopsToBeType c.args.text.now 0 r) (sym c.refusal_at.ensures)
     (text_refused c.args.text.now _ (told_whole _ c.in-Err-Refused.field-0 c.in-Err-Refused.fault c.in-Err-Refused.ensures c.in-Err-Refused.field-0-is))
+
+pub returns-in-Ok-clause-good : goal.returns-in-Ok-clause-good
+returns-in-Ok-clause-good c = text_good c.args.text.now c.in-Ok.ty (text_found c.args.text.now _ c.in-Ok.ensures)

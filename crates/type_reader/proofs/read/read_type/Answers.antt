@@ -1,6 +1,7 @@
 use Rattle.std.proofs.Common.{◌≡◌, sym, subst}
 use Rattle.type_reader.specs.TypeMeaning.{at_found, at_refused, at_one, at_none, told_fails}
 use Rattle.channel_types.specs.TypeAnswers.{StopsToBeType}
+use Rattle.type_reader.specs.GoodTypes.{at_good}
 use Rattle.type_reader.proofs.read.read_type.Goals as goal
 
 pub returns-in-Ok-clause-found : goal.returns-in-Ok-clause-found
@@ -17,3 +18,6 @@ pub returns-in-Err-Refused-clause-refused : goal.returns-in-Err-Refused-clause-r
 returns-in-Err-Refused-clause-refused c =
     subst (λ r. StopsToBeType c.args.text.now c.args.at r) (sym c.refusal_at.ensures)
     (at_refused c.args.text.now c.args.at _ (told_fails _ c.in-Err-Refused.field-0 c.in-Err-Refused.fault c.in-Err-Refused.ensures c.in-Err-Refused.field-0-is))
+
+pub returns-in-Ok-clause-good : goal.returns-in-Ok-clause-good
+returns-in-Ok-clause-good c = at_good c.args.text.now c.args.at c.in-Ok.found (at_found c.args.text.now c.args.at c.in-Ok.found c.in-Ok.ensures.0 c.in-Ok.ensures.1)
