@@ -6,6 +6,8 @@ pub mod esi_type;
 mod names;
 mod printing;
 mod same;
+#[cfg(test)]
+mod tests;
 mod width;
 
 pub use esi_lex::Class;
