@@ -15,15 +15,15 @@ use Rattle.channel_types.specs.Goods.{IsGoodWithin, good_void, good_struct, good
 
 pub name_a : IsName (97 ∷ [])
 unfolding word_token word_kind member_word_kind statement_word_kind last_word_kind
-name_a = record { begins = refl; goes_on = refl; cut = refl; no_keyword = refl }
+name_a = record { word = record { begins = refl; octets = refl; spells = refl }; no_keyword = refl }
 
 pub name_b : IsName (98 ∷ [])
 unfolding word_token word_kind member_word_kind statement_word_kind last_word_kind
-name_b = record { begins = refl; goes_on = refl; cut = refl; no_keyword = refl }
+name_b = record { word = record { begins = refl; octets = refl; spells = refl }; no_keyword = refl }
 
 pub name_c : IsName (99 ∷ [])
 unfolding word_token word_kind member_word_kind statement_word_kind last_word_kind
-name_c = record { begins = refl; goes_on = refl; cut = refl; no_keyword = refl }
+name_c = record { word = record { begins = refl; octets = refl; spells = refl }; no_keyword = refl }
 
 pub void_is_good : IsGoodType V.Void
 void_is_good = good_type V.Void (good_deeper 1 16 V.Void (omega arith) good_void)

@@ -4,6 +4,7 @@ use Rattle.std.specs.Prelude.{codes}
 use Rattle.std.specs.List.{sum_by}
 use Rattle.std.specs.Fmt.{decimal}
 use Rattle.std.proofs.lemmas.List.Sums.{sum-map}
+use Rattle.esi_lex.specs.Spellings.{class_letters}
 use Rattle.esi_lex.specs.declared.token.Class.{Class}
 use Rattle.channel_types.specs.declared.esi_type.EsiType.{EsiType}
 use Rattle.channel_types.specs.declared.esi_type.EsiType.TheVariants as V
@@ -13,7 +14,7 @@ use Rattle.channel_types.specs.declared.esi_type.EsiType.TheViews.{out-EsiType}
 use Rattle.channel_types.specs.declared.esi_type.EsiType.TheFolds.{map-EsiType, fold_out-EsiType, fold_out-Field, fold-roll-EsiType}
 use Rattle.channel_types.specs.declared.esi_type.Field.{Field}
 use Rattle.channel_types.specs.Types.{width_step, field_width_step, width_of, field_width, nesting_step, nesting_of, field_nesting, greatest, level_width}
-use Rattle.channel_types.specs.Text.{text_step, field_text_step, text_of, field_text, class_letters, listed}
+use Rattle.channel_types.specs.Text.{text_step, field_text_step, text_of, field_text, listed}
 
 -- the width, by the parts of a level
 pub width-level : (ty : EsiType) → width_of ty ≡ level_width (out-EsiType ty)

@@ -5,3 +5,5 @@ pub mod Goods
 pub mod TypeGrammar
 pub mod Decided
 pub mod TypeAnswers
+pub mod Pieces
+pub mod PrintedTypes

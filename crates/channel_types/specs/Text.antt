@@ -2,18 +2,11 @@
 use Rattle.std.specs.Prelude.{ℕ, List, [], ◌∷◌, ◌++◌, codes}
 use Rattle.std.specs.List.{flat_map}
 use Rattle.std.specs.Fmt.{decimal}
-use Rattle.esi_lex.specs.declared.token.Class.{Class}
-use Rattle.esi_lex.specs.declared.token.Class.TheVariants.{Unsigned, Signed, Plain}
+use Rattle.esi_lex.specs.Spellings.{class_letters}
 use Rattle.channel_types.specs.declared.esi_type.EsiType.{EsiType}
 use Rattle.channel_types.specs.declared.esi_type.EsiType.TheOpen.{EsiType-F, Field-F}
 use Rattle.channel_types.specs.declared.esi_type.EsiType.TheFolds.{fold-EsiType, fold-Field}
 use Rattle.channel_types.specs.declared.esi_type.Field.{Field}
-
--- the letters in front of a width
-abbrev pub class_letters : Class → List ℕ
-class_letters Unsigned = codes "ui"
-class_letters Signed = codes "si"
-class_letters Plain = codes "i"
 
 -- texts with commas between them
 abbrev pub listed : List (List ℕ) → List ℕ

@@ -1,8 +1,10 @@
 //! The text of a type (docs/design-text.md).
 ghost use Rattle.std.specs.Prelude.{◌≡◌, ◌++◌, IfOk, OnOk};
 ghost use Rattle.std.specs.Fmt.{decimal};
-ghost use Rattle.channel_types.specs.Text.{class_letters, text_of};
+ghost use Rattle.channel_types.specs.Text.{text_of};
+ghost use Rattle.esi_lex.specs.Spellings.{class_letters};
 ghost use Rattle.channel_types.specs.Types.{IsGoodType};
+ghost use Rattle.channel_types.specs.TypeAnswers.{IsTypeText};
 
 use crate::esi_type::EsiType;
 use esi_base::{List, NoMemory, Octets};
@@ -11,9 +13,13 @@ use std::alloc::Global;
 
 impl EsiType {
     /// The text of the type, with one space behind a comma or a colon, and none elsewhere.
+    #[tactic(auto, using(crate::specs::PrintedTypes::printed_is_type))]
     pub fn print_type(&self, alloc: Global) -> Result<Octets, NoMemory>
         requires { IsGoodType self.now }
         ensures text { IfOk result (λ text. text ≡ text_of self.now) }
+
+        // It is a text of the type in the grammar.
+        ensures of_type { IfOk result (λ text. IsTypeText text self.now) }
     {
         let mut text = List::new(alloc);
         push_type(&mut text, alloc, self)?;

@@ -3,6 +3,7 @@ ghost use Rattle.std.specs.Prelude.{◌≡◌, ◌≤◌, ◌<◌, ◌-◌, ◌^
 ghost use Rattle.esi_lex.specs.Tokens.{tokens};
 ghost use Rattle.design_tokens.specs.Grammar.{fault_of};
 ghost use Rattle.channel_types.specs.Types.{IsGoodType};
+ghost use Rattle.channel_types.specs.Text.{text_of};
 ghost use Rattle.channel_types.specs.TypeGrammar.{Found};
 ghost use Rattle.channel_types.specs.TypeAnswers as answers;
 ghost use Rattle.channel_types.specs.TypeAnswers.{IsTypeAt, IsTypeText, StopsToBeType, IfRefused, OkUnlessMemory};
@@ -109,6 +110,9 @@ pub fn parse_type(alloc: Global, text: &[u8]) -> Result<EsiType, Stop>
 
     // What is read is good.
     ensures good { IfOk result IsGoodType }
+
+    // The printed text of a good type is read as that type again.
+    ensures again { (ty : EsiType) → IsGoodType ty → text.now ≡ text_of ty → OkUnlessMemory ty result }
 {
     match whole(alloc, text) {
         Ok((ty, _)) => Ok(ty),

@@ -2,6 +2,8 @@ use Rattle.std.proofs.Common.{◌≡◌, sym, subst}
 use Rattle.channel_types.specs.TypeAnswers.{StopsToBeType}
 use Rattle.type_reader.specs.TypeMeaning.{text_found, text_refused, text_one, text_none, told_whole}
 use Rattle.type_reader.specs.GoodTypes.{text_good}
+use Rattle.channel_types.specs.PrintedTypes.{printed_is_type}
+use Rattle.channel_types.specs.TypeAnswers.{IsTypeText}
 use Rattle.type_reader.proofs.read.parse_type.Goals as goal
 
 pub returns-in-Ok-clause-found : goal.returns-in-Ok-clause-found
@@ -21,3 +23,10 @@ returns-in-Err-Refused-clause-refused c =
 
 pub returns-in-Ok-clause-good : goal.returns-in-Ok-clause-good
 returns-in-Ok-clause-good c = text_good c.args.text.now c.in-Ok.ty (text_found c.args.text.now _ c.in-Ok.ensures)
+
+pub returns-in-Ok-clause-again : goal.returns-in-Ok-clause-again
+returns-in-Ok-clause-again c = λ ty good e. text_one c.args.text.now _ ty c.in-Ok.ensures (subst (λ z. IsTypeText z ty) (sym e) (printed_is_type ty good))
+
+pub returns-in-Err-Refused-clause-again : goal.returns-in-Err-Refused-clause-again
+returns-in-Err-Refused-clause-again c = λ ty good e.
+    text_none c.args.text.now _ ty (told_whole _ c.in-Err-Refused.field-0 c.in-Err-Refused.fault c.in-Err-Refused.ensures c.in-Err-Refused.field-0-is) (subst (λ z. IsTypeText z ty) (sym e) (printed_is_type ty good))

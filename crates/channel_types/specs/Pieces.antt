@@ -1,0 +1,134 @@
+-- Pieces of printed text: each is cut into the tokens of a tree of a rule, whatever stands behind it.
+use Rattle.std.proofs.Common.{◌≡◌, ℕ, ◌+◌, ◌<◌, ◌≤◌, ◌^◌, ◌==◌, Bool, true, false, nat_lt, if◌then◌else◌, List, [], ◌∷◌, ◌++◌, length, refl, sym, ap, ◌∙◌, subst, arith, append_assoc, append-nil, length-append}
+use Rattle.std.proofs.lemmas.Bool.Decides.{nat_tests}
+use Rattle.std.specs.Fmt.{decimal}
+use Rattle.grammar_law.specs.Lexemes.{Lexeme, Lexemes}
+use Rattle.grammar_law.specs.Rule.{Rule, Tree}
+use Rattle.grammar_law.specs.Rule.Rule.{one, seq, alt, star, judged}
+use Rattle.grammar_law.specs.Rule.Tree.{leaf, pair, left, right, last, turn, held}
+use Rattle.grammar_law.specs.Kinds.{among, spell, first, second, inside}
+use Rattle.grammar_law.specs.Trees.{Judges, Fits}
+use Rattle.grammar_law.specs.Trees.Fits.{fits_one, fits_seq, fits_left, fits_right, fits_last, fits_turn, fits_judged}
+use Rattle.grammar_law.specs.Bridge.{leaf_by, items}
+use Rattle.grammar_law.specs.Turns.{is_of_kind}
+use Rattle.esi_lex.specs.Octet.{is_sign, is_word_octet}
+use Rattle.esi_lex.specs.Cuts.{stops}
+use Rattle.esi_lex.specs.Spellings.{IsWordText, class_letters}
+use Rattle.esi_lex.specs.Printed.{space_cut, sign_cut, word_cut, type_word_cut, number_cut}
+use Rattle.esi_lex.specs.Tokens.{lexemes_from}
+use Rattle.esi_lex.specs.declared.token.Class.{Class}
+use Rattle.esi_lex.specs.declared.token.Token.{Token}
+use Rattle.esi_lex.specs.declared.token.Token.TheVariants.{Word, TypeWord as WidthWord, Number, Sign}
+use Rattle.design_tokens.specs.declared.kind.Kind.{Kind}
+use Rattle.design_tokens.specs.declared.kind.Kind.TheVariants.{TypeWord, One, Small, Great}
+use Rattle.design_tokens.specs.Kinds.{code, counts, kind_of, word_kind}
+use Rattle.design_tokens.specs.Grammar.{kind_code, word_in, number_in, width_in}
+use Rattle.channel_types.specs.TypeGrammar.{types, token}
+
+-- The lexemes of a text are those of the tree and then those behind it, and the tree is worth this.
+pub record Cut (judge : Judges Token) (called : ℕ → Tree Token → Type 0) (r : Rule) (V : Tree Token → Type 0) (piece behind : List ℕ) (at : ℕ) : Type 0 where
+  pub tree : Tree Token
+  pub fits : Fits types judge called r tree
+  pub worth : V tree
+  pub cut : lexemes_from 0 false at (piece ++ behind) ≡ spell tree ++ lexemes_from 0 false (at + length piece) behind
+
+-- the lexemes of two pieces, one behind the other
+joined_cut : (at : ℕ) (a b behind : List ℕ) (t u : Tree Token) → lexemes_from 0 false at (a ++ (b ++ behind)) ≡ spell t ++ lexemes_from 0 false (at + length a) (b ++ behind)
+    → lexemes_from 0 false (at + length a) (b ++ behind) ≡ spell u ++ lexemes_from 0 false (at + length a + length b) behind
+    → lexemes_from 0 false at ((a ++ b) ++ behind) ≡ (spell t ++ spell u) ++ lexemes_from 0 false (at + length (a ++ b)) behind
+joined_cut at a b behind t u d e =
+    let same : at + length a + length b ≡ at + length (a ++ b) = omega (arith, length-append a b) in
+    ap (λ z. lexemes_from 0 false at z) (append_assoc a b behind) ∙ (d ∙ (ap (λ z. spell t ++ z) e ∙ (sym (append_assoc (spell t) (spell u) _) ∙ ap (λ n. (spell t ++ spell u) ++ lexemes_from 0 false n behind) same)))
+
+-- a number below 2^32 is a count
+small_count : (n : ℕ) → n < 2 ^ 32 → among counts (kind_code (Number n)) ≡ true
+small_count n h = of (n == 1) (nat_lt n (2 ^ 32)) refl
+  where
+    small : nat_lt n (2 ^ 32) ≡ true
+    small = grind (arith, nat_tests)
+
+    of : (a b : Bool) → nat_lt n (2 ^ 32) ≡ b → among counts (code (if a then One else (if b then Small else Great))) ≡ true
+    of true b e = refl
+    of false true e = refl
+    of false false e = absurd (cc small)
+
+module _ (judge : Judges Token) (called : ℕ → Tree Token → Type 0) where
+  -- wherever it stands
+  abbrev pub Piece : Rule → (Tree Token → Type 0) → List ℕ → List ℕ → Type 0
+  Piece r V piece behind = (at : ℕ) → Cut judge called r V piece behind at
+
+  -- one piece behind another
+  pub join : {r s : Rule} {V W : Tree Token → Type 0} (a b behind : List ℕ) → Piece r V a (b ++ behind) → Piece s W b behind → Piece (seq r s) (λ t. V (first t) × W (second t)) (a ++ b) behind
+  join {r} {s} {V} {W} a b behind p q at = of (p at) (q (at + length a))
+    where
+      of : Cut judge called r V a (b ++ behind) at → Cut judge called s W b behind (at + length a) → Cut judge called (seq r s) (λ t. V (first t) × W (second t)) (a ++ b) behind at
+      of x y = record {
+        tree = pair x.tree y.tree;
+        fits = fits_seq x.fits y.fits;
+        worth = (x.worth, y.worth);
+        cut = joined_cut at a b behind x.tree y.tree x.cut y.cut;
+      }
+
+  -- a space in front
+  pub gap : {r : Rule} {V : Tree Token → Type 0} (a behind : List ℕ) → Piece r V a behind → Piece r V (32 ∷ a) behind
+  gap {r} {V} a behind p at = of (p (at + 1))
+    where
+      of : Cut judge called r V a behind (at + 1) → Cut judge called r V (32 ∷ a) behind at
+      of x = record {
+        tree = x.tree;
+        fits = x.fits;
+        worth = x.worth;
+        cut = space_cut at (a ++ behind) ∙ (x.cut ∙ ap (λ n. spell x.tree ++ lexemes_from 0 false n behind) (let e : at + 1 + length a ≡ at + length (32 ∷ a) = omega arith in e));
+      }
+
+  -- the piece is worth what follows from it
+  pub worth_so : {r : Rule} {V W : Tree Token → Type 0} (a behind : List ℕ) → ((t : Tree Token) → V t → W t) → Piece r V a behind → Piece r W a behind
+  worth_so {r} {V} {W} a behind f p at = of (p at)
+    where
+      of : Cut judge called r V a behind at → Cut judge called r W a behind at
+      of x = record { tree = x.tree; fits = x.fits; worth = f x.tree x.worth; cut = x.cut }
+
+  -- one token
+  pub sign_piece : (k : Kind) (b : ℕ) (behind : List ℕ) → is_sign b ≡ true → kind_code (Sign b) ≡ code k → Piece (token k) (λ t. Unit {0}) (b ∷ []) behind
+  sign_piece k b behind s e at = record { tree = leaf ((at, at + 1), Sign b); fits = fits_one (is_of_kind (code k) (kind_code (Sign b)) e); worth = tt; cut = sign_cut at b behind s }
+
+  pub word_piece : (k : Kind) (w behind : List ℕ) → IsWordText w → word_kind w ≡ k → stops is_word_octet behind ≡ true → Piece (token k) (λ t. leaf_by types (λ x. word_in x.1) t ≡ w) w behind
+  word_piece k w behind h e s at = record {
+    tree = leaf ((at, at + length w), Word w);
+    fits = fits_one (is_of_kind (code k) (code (word_kind w)) (ap code e));
+    worth = refl;
+    cut = word_cut at w behind h s;
+  }
+
+  pub bits_piece : (class : Class) (width : ℕ) (behind : List ℕ) → width ≤ 1024 → stops is_word_octet behind ≡ true
+      → Piece (token TypeWord) (λ t. leaf_by types (λ x. width_in x.1) t ≡ (class, width)) (class_letters class ++ decimal width) behind
+  bits_piece class width behind h s at = record {
+    tree = leaf ((at, at + length (class_letters class ++ decimal width)), WidthWord class width);
+    fits = fits_one refl;
+    worth = refl;
+    cut = type_word_cut at class width behind h s;
+  }
+
+  pub count_piece : (n : ℕ) (behind : List ℕ) → n < 2 ^ 32 → stops is_word_octet behind ≡ true → Piece (one counts) (λ t. leaf_by types (λ x. number_in x.1) t ≡ n) (decimal n) behind
+  count_piece n behind h s at = record {
+    tree = leaf ((at, at + length (decimal n)), Number n);
+    fits = fits_one (small_count n h);
+    worth = refl;
+    cut = number_cut at n behind (omega arith) s;
+  }
+
+  -- no turn, and one turn more
+  pub star_none : {r : Rule} {A : Type 0} (f : Tree Token → A) (behind : List ℕ) → Piece (star r) (λ t. items f t ≡ []) [] behind
+  star_none f behind at = record { tree = last; fits = fits_last; worth = refl; cut = ap (λ n. lexemes_from 0 false n behind) (let e : at ≡ at + 0 = omega arith in e) }
+
+  pub star_more : {r : Rule} {A : Type 0} (f : Tree Token → A) (x : A) (xs : List A) (a b behind : List ℕ) → Piece r (λ t. f t ≡ x) a (b ++ behind) → Piece (star r) (λ t. items f t ≡ xs) b behind
+      → Piece (star r) (λ t. items f t ≡ x ∷ xs) (a ++ b) behind
+  star_more {r} {A} f x xs a b behind p q at = of (p at) (q (at + length a))
+    where
+      of : Cut judge called r (λ t. f t ≡ x) a (b ++ behind) at → Cut judge called (star r) (λ t. items f t ≡ xs) b behind (at + length a) → Cut judge called (star r) (λ t. items f t ≡ x ∷ xs) (a ++ b) behind at
+      of y z = record {
+        tree = turn y.tree z.tree;
+        fits = fits_turn y.fits z.fits;
+        worth = ap (λ v. v ∷ items f z.tree) y.worth ∙ ap (λ vs. x ∷ vs) z.worth;
+        cut = joined_cut at a b behind y.tree z.tree y.cut z.cut;
+      }
