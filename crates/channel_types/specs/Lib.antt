@@ -3,5 +3,6 @@ pub mod Text
 pub mod Equations
 pub mod Goods
 pub mod TypeGrammar
+pub mod Judged
 pub mod Decided
 pub mod TypeAnswers
