@@ -158,3 +158,11 @@ good_type ty good = record { each = good.each; nesting = good.nesting }
 
 pub good_within : (ty : EsiType) → IsGoodType ty → IsGoodWithin 16 ty
 good_within ty good = record { each = good.each; nesting = good.nesting }
+
+pub good_type_fields : (fields : List Field) → IsGoodType (V.Struct fields) → All (λ f. IsGoodType f.ty) fields
+good_type_fields fields good =
+    All-weaker (λ f. IsGoodWithin 15 f.ty) (λ f. IsGoodType f.ty) (λ f within. good_type f.ty (good_deeper 15 16 f.ty (omega arith) within)) fields
+    (fields_within 15 fields (good_within (V.Struct fields) good))
+
+pub good_type_item : (item : EsiType) (count : ℕ) → IsGoodType (V.Array item count) → IsGoodType item
+good_type_item item count good = good_type item (good_deeper 15 16 item (omega arith) (item_within 15 item count (good_within (V.Array item count) good)))
