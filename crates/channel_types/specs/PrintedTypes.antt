@@ -39,6 +39,7 @@ use Rattle.channel_types.specs.Text.{listed, text_of, field_text}
 use Rattle.channel_types.specs.Equations.{width-level, width-Array, nesting-Bits, nesting-Void, nesting-Struct, nesting-Array, text-Bits, text-Void, text-Struct, text-Array, text-field}
 use Rattle.channel_types.specs.Goods.{IsGoodWithin, good_level, good_level_Bits, good_level_Struct, good_level_Array, good_low, good_within, fields_within, item_within}
 use Rattle.channel_types.specs.TypeGrammar.{types, token, a_type, field_rule, struct_rule, array_rule, level_rule, type_rule, type_judge, judge_of, Found, field_in, struct_in, array_in, level_in, type_of}
+use Rattle.channel_types.specs.Judged.{judge-good_level}
 use Rattle.channel_types.specs.TypeAnswers.{IsTypeTree, IsTypeText}
 use Rattle.channel_types.specs.Pieces.{Cut, Piece, join, gap, worth_so, sign_piece, word_piece, bits_piece, count_piece, star_none, star_more}
 
@@ -52,22 +53,6 @@ pub record TypeCut (d : ℕ) (ty : EsiType) (behind : List ℕ) (at : ℕ) : Typ
   pub fits : IsTypeTree d tree
   pub worth : (type_of d tree).0 ≡ ty
   pub cut : lexemes_from 0 false at (text_of ty ++ behind) ≡ spell tree ++ lexemes_from 0 false (at + length (text_of ty)) behind
-
--- ---- no judge refuses a good type
-
-judged_so : (a b c : Bool) → a ≡ false → b ≡ false → c ≡ false → ◌≡◌ {A = ℕ} (if a || b then 101 else (if c then 102 else 0)) 0
-judged_so a b c d e f = rw (d, e, f) refl
-
-not_zero : (n : ℕ) → 1 ≤ n → (n == 0) ≡ false
-not_zero n h = grind arith
-
-not_wide : (n : ℕ) → n ≤ 1024 → nat_lt 1024 n ≡ false
-not_wide n h = grind (arith, nat_tests)
-
-good_judged : (ty : EsiType) → IsLevel (out-EsiType ty) → judge_of ty ≡ 0
-good_judged ty h =
-    judged_so (width_of ty == 0) (nat_lt 1024 (width_of ty)) (has_repeat (level_names (out-EsiType ty)))
-    (not_zero (width_of ty) (subst (λ n. 1 ≤ n) (sym (width-level ty)) h.low)) (not_wide (width_of ty) (subst (λ n. n ≤ 1024) (sym (width-level ty)) h.high)) h.distinct
 
 -- an array of so few bits has few items
 few : (count width : ℕ) → 1 ≤ width → count * width ≤ 1024 → count < 2 ^ 32
@@ -226,7 +211,7 @@ module _ (d : ℕ) where
         of : Cut (type_judge d) (Called d) level_rule (λ t. (level_in (type_of d) t).0 ≡ ty) (text_of ty) behind at → TypeCut (suc d) ty behind at
         of x = record {
           tree = node (held x.tree);
-          fits = record { inner = held x.tree; is = refl; fits = fits_judged x.fits (ap judge_of x.worth ∙ good_judged ty (good_level ty good.each)) };
+          fits = record { inner = held x.tree; is = refl; fits = fits_judged x.fits (ap judge_of x.worth ∙ judge-good_level ty (good_level ty good.each)) };
           worth = x.worth;
           cut = x.cut;
         }

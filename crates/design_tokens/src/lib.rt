@@ -4,6 +4,8 @@
 
 pub mod kind;
 pub mod reading;
+#[cfg(test)]
+mod tests;
 mod words;
 
 pub use kind::{Kind, is_same, kind_of};

@@ -28,48 +28,14 @@ use Rattle.channel_types.specs.declared.esi_type.EsiType.TheOpen.{EsiType-F}
 use Rattle.channel_types.specs.declared.esi_type.EsiType.TheViews.{out-EsiType}
 use Rattle.channel_types.specs.declared.esi_type.Field.{Field}
 use Rattle.channel_types.specs.Types.{width_of, name_of, has_repeat, level_width, level_names, IsLevel, IsGoodType}
-use Rattle.channel_types.specs.Equations.{width-level}
+use Rattle.channel_types.specs.Judged.{level_judged_good}
 use Rattle.channel_types.specs.Goods.{IsGoodWithin, good_bits, good_void, good_struct, good_array, good_deeper, good_type}
 use Rattle.channel_types.specs.TypeGrammar.{types, token, field_rule, struct_rule, array_rule, level_rule, type_rule, type_judge, judge_of, Found, field_in, struct_in, array_in, level_in, type_of}
 use Rattle.channel_types.specs.TypeAnswers.{IsTypeTree, IsTypeAt, IsTypeText}
 
--- what a judge who refuses nothing saw
-record IsJudgedGood (ty : EsiType) : Type 0 where
-  low : 1 ≤ width_of ty
-  high : width_of ty ≤ 1024
-  distinct : has_repeat (level_names (out-EsiType ty)) ≡ false
-
--- the three questions that a judge asks
-abbrev answer : Bool → Bool → Bool → ℕ
-answer a b c = if a || b then 101 else (if c then 102 else 0)
-
-all_no : (a b c : Bool) → answer a b c ≡ 0 → (a ≡ false) × (b ≡ false) × (c ≡ false)
-all_no true b c e = absurd (cc)
-all_no false true c e = absurd (cc)
-all_no false false true e = absurd (cc)
-all_no false false false e = (refl, refl, refl)
-
-low_of : (n : ℕ) → (n == 0) ≡ false → 1 ≤ n
-low_of n e = grind arith
-
-high_of : (n : ℕ) → nat_lt 1024 n ≡ false → n ≤ 1024
-high_of n e = grind (arith, nat_tests)
-
-judged_good : (ty : EsiType) → judge_of ty ≡ 0 → IsJudgedGood ty
-judged_good ty e =
-    let no = all_no (width_of ty == 0) (nat_lt 1024 (width_of ty)) (has_repeat (level_names (out-EsiType ty))) e in
-    record { low = low_of (width_of ty) no.0; high = high_of (width_of ty) no.1; distinct = no.2 }
-
 -- the level of a type that was judged good, with names for its fields
 level_good : (ty : EsiType) (level : EsiType-F EsiType Field) → out-EsiType ty ≡ level → judge_of ty ≡ 0 → All IsName (level_names level) → IsLevel level
-level_good ty level e judged names =
-    let j = judged_good ty judged in
-    record {
-      low = subst (λ z. 1 ≤ level_width z) e (subst (λ n. 1 ≤ n) (width-level ty) j.low);
-      high = subst (λ z. level_width z ≤ 1024) e (subst (λ n. n ≤ 1024) (width-level ty) j.high);
-      names = names;
-      distinct = subst (λ z. has_repeat (level_names z) ≡ false) e j.distinct;
-    }
+level_good ty level e judged names = subst IsLevel e (level_judged_good ty judged (subst (λ z. All IsName (level_names z)) (sym e) names))
 
 module _ (d : ℕ) (called : ℕ → Tree Token → Type 0) (inner : (t : Tree Token) → called 0 t → AreSpelled (spell t) → IsGoodWithin d (type_of d t).0) where
   -- a name, by its token
