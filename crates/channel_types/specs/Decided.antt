@@ -1,9 +1,9 @@
 -- One token decides the grammar of types.
 use Rattle.std.proofs.Common.{◌≡◌, ℕ, Bool, true, false, [], ◌∷◌, if◌then◌else◌, ◌==◌, refl, sym, subst, arith}
-use Rattle.grammar_law.specs.Rule.{Rule, Tree, Grammar}
+use Rattle.grammar_law.specs.Rule.{Tree}
 use Rattle.grammar_law.specs.Rule.Rule.{call}
 use Rattle.grammar_law.specs.Rule.Tree.{leaf, left, node, held}
-use Rattle.grammar_law.specs.Kinds.{among, is_plain}
+use Rattle.grammar_law.specs.Kinds.{among}
 use Rattle.grammar_law.specs.Trees.{In}
 use Rattle.grammar_law.specs.Trees.In.{in_one, in_left, in_call, in_judged}
 use Rattle.grammar_law.specs.Plain.{Calls}
@@ -12,7 +12,7 @@ use Rattle.grammar_law.specs.Laws.{IsDecided}
 use Rattle.esi_lex.specs.declared.token.Token.{Token}
 use Rattle.design_tokens.specs.Kinds.{word_kind, member_word_kind, statement_word_kind, last_word_kind}
 use Rattle.design_tokens.specs.Grammar.{sample}
-use Rattle.channel_types.specs.TypeGrammar.{types, type_rule}
+use Rattle.channel_types.specs.TypeGrammar.{types}
 
 only_type : (n : ℕ) → among (0 ∷ []) n ≡ true → n ≡ 0
 only_type n c = of (n == 0) refl c

@@ -1,14 +1,13 @@
 -- Pieces of printed text: each is cut into the tokens of a tree of a rule, whatever stands behind it.
-use Rattle.std.proofs.Common.{◌≡◌, ℕ, ◌+◌, ◌<◌, ◌≤◌, ◌^◌, ◌==◌, Bool, true, false, nat_lt, if◌then◌else◌, List, [], ◌∷◌, ◌++◌, length, refl, sym, ap, ◌∙◌, subst, arith, append_assoc, append-nil, length-append}
+use Rattle.std.proofs.Common.{◌≡◌, ℕ, ◌+◌, ◌<◌, ◌≤◌, ◌^◌, ◌==◌, Bool, true, false, nat_lt, if◌then◌else◌, List, [], ◌∷◌, ◌++◌, length, refl, sym, ap, ◌∙◌, arith, append_assoc, length-append}
 use Rattle.std.proofs.lemmas.Bool.Decides.{nat_tests}
 use Rattle.std.specs.Fmt.{decimal}
-use Rattle.grammar_law.specs.Lexemes.{Lexeme, Lexemes}
 use Rattle.grammar_law.specs.Rule.{Rule, Tree}
-use Rattle.grammar_law.specs.Rule.Rule.{one, seq, alt, star, judged}
-use Rattle.grammar_law.specs.Rule.Tree.{leaf, pair, left, right, last, turn, held}
-use Rattle.grammar_law.specs.Kinds.{among, spell, first, second, inside}
+use Rattle.grammar_law.specs.Rule.Rule.{one, seq, star}
+use Rattle.grammar_law.specs.Rule.Tree.{leaf, pair, last, turn}
+use Rattle.grammar_law.specs.Kinds.{among, spell, first, second}
 use Rattle.grammar_law.specs.Trees.{Judges, Fits}
-use Rattle.grammar_law.specs.Trees.Fits.{fits_one, fits_seq, fits_left, fits_right, fits_last, fits_turn, fits_judged}
+use Rattle.grammar_law.specs.Trees.Fits.{fits_one, fits_seq, fits_last, fits_turn}
 use Rattle.grammar_law.specs.Bridge.{leaf_by, items}
 use Rattle.grammar_law.specs.Turns.{is_of_kind}
 use Rattle.esi_lex.specs.Octet.{is_sign, is_word_octet}
@@ -21,7 +20,7 @@ use Rattle.esi_lex.specs.declared.token.Token.{Token}
 use Rattle.esi_lex.specs.declared.token.Token.TheVariants.{Word, TypeWord as WidthWord, Number, Sign}
 use Rattle.design_tokens.specs.declared.kind.Kind.{Kind}
 use Rattle.design_tokens.specs.declared.kind.Kind.TheVariants.{TypeWord, One, Small, Great}
-use Rattle.design_tokens.specs.Kinds.{code, counts, kind_of, word_kind}
+use Rattle.design_tokens.specs.Kinds.{code, counts, word_kind}
 use Rattle.design_tokens.specs.Grammar.{kind_code, word_in, number_in, width_in}
 use Rattle.channel_types.specs.TypeGrammar.{types, token}
 

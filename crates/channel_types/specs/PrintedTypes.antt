@@ -1,19 +1,16 @@
 -- The printed text of a good type is a text of that type.
-use Rattle.std.proofs.Common.{◌≡◌, ◌==◌, ◌||◌, ℕ, zero, suc, ◌+◌, ◌*◌, ◌<◌, ◌≤◌, ◌^◌, Bool, true, false, if◌then◌else◌, nat_lt, List, [], ◌∷◌, ◌++◌, length, map, refl, sym, ap, ◌∙◌, subst, arith, append_assoc, append-nil, add-one}
-use Rattle.std.specs.Prelude.{codes, All, sum}
-use Rattle.std.specs.List.{flat_map, sum_by}
+use Rattle.std.proofs.Common.{◌≡◌, ℕ, zero, suc, ◌+◌, ◌*◌, ◌<◌, ◌≤◌, ◌^◌, true, false, List, [], ◌∷◌, ◌++◌, length, map, refl, sym, ap, ◌∙◌, subst, arith, append_assoc, append-nil, add-one}
+use Rattle.std.specs.Prelude.{codes, All}
+use Rattle.std.specs.List.{flat_map}
 use Rattle.std.specs.Fmt.{decimal}
 use Rattle.std.proofs.Math.Nat.{le-mul_of_pos_right}
-use Rattle.std.proofs.lemmas.Bool.Decides.{nat_tests}
 use Rattle.std.proofs.lemmas.List.Elements.{All-head, All-tail}
-use Rattle.grammar_law.specs.Lexemes.{Lexeme, Lexemes}
 use Rattle.grammar_law.specs.Rule.{Rule, Tree, ◌⟫◌}
-use Rattle.grammar_law.specs.Rule.Rule.{one, alt, star, call}
+use Rattle.grammar_law.specs.Rule.Rule.{alt, star}
 use Rattle.grammar_law.specs.Rule.Tree.{left, right, node, held}
-use Rattle.grammar_law.specs.Kinds.{spell, first, second, inside}
-use Rattle.grammar_law.specs.Trees.{Judges, Fits}
+use Rattle.grammar_law.specs.Kinds.{spell, first, second}
 use Rattle.grammar_law.specs.Trees.Fits.{fits_left, fits_right, fits_call, fits_judged}
-use Rattle.grammar_law.specs.Nested.{NodeOf, NoTree, TooDeep, shut}
+use Rattle.grammar_law.specs.Nested.{NoTree, TooDeep, shut}
 use Rattle.grammar_law.specs.Tower.{TowerTree}
 use Rattle.grammar_law.specs.Levels.{all_own}
 use Rattle.grammar_law.specs.Bridge.{leaf_by, items}
@@ -21,12 +18,12 @@ use Rattle.esi_lex.specs.Octet.{is_word_octet}
 use Rattle.esi_lex.specs.Cuts.{stops}
 use Rattle.esi_lex.specs.Spellings.{IsWordText, class_letters}
 use Rattle.esi_lex.specs.Printed.{nothing_cut}
-use Rattle.esi_lex.specs.Tokens.{lexemes_from, tokens, word_token}
+use Rattle.esi_lex.specs.Tokens.{lexemes_from, word_token}
 use Rattle.esi_lex.specs.declared.token.Class.{Class}
 use Rattle.esi_lex.specs.declared.token.Token.{Token}
-use Rattle.design_tokens.specs.declared.kind.Kind.TheVariants.{Name, TypeWord, Less, Greater, Colon, Comma, Void, Struct, Array}
-use Rattle.design_tokens.specs.Kinds.{code, counts, word_kind, member_word_kind, statement_word_kind, last_word_kind}
-use Rattle.design_tokens.specs.Grammar.{word_in, number_in, width_in}
+use Rattle.design_tokens.specs.declared.kind.Kind.TheVariants.{Name, Less, Greater, Colon, Comma, Void, Struct, Array}
+use Rattle.design_tokens.specs.Kinds.{word_kind, member_word_kind, statement_word_kind, last_word_kind}
+use Rattle.design_tokens.specs.Grammar.{word_in, number_in}
 use Rattle.design_tokens.specs.Names.{IsName}
 use Rattle.channel_types.specs.declared.esi_type.EsiType.{EsiType}
 use Rattle.channel_types.specs.declared.esi_type.EsiType.TheVariants as V
@@ -34,11 +31,11 @@ use Rattle.channel_types.specs.declared.esi_type.EsiType.TheVariants.{outs-Bits,
 use Rattle.channel_types.specs.declared.esi_type.EsiType.TheOpen.{EsiType-F}
 use Rattle.channel_types.specs.declared.esi_type.EsiType.TheViews.{out-EsiType, roll-EsiType, roll-out-EsiType}
 use Rattle.channel_types.specs.declared.esi_type.Field.{Field}
-use Rattle.channel_types.specs.Types.{width_of, nesting_of, name_of, has_repeat, level_width, level_names, IsLevel, IsEachGood, IsGoodType}
-use Rattle.channel_types.specs.Text.{listed, text_of, field_text}
-use Rattle.channel_types.specs.Equations.{width-level, width-Array, nesting-Bits, nesting-Void, nesting-Struct, nesting-Array, text-Bits, text-Void, text-Struct, text-Array, text-field}
+use Rattle.channel_types.specs.Types.{width_of, nesting_of, name_of, IsGoodType}
+use Rattle.channel_types.specs.Text.{text_of, field_text}
+use Rattle.channel_types.specs.Equations.{nesting-Bits, nesting-Void, nesting-Struct, nesting-Array, text-Bits, text-Void, text-Struct, text-Array, text-field}
 use Rattle.channel_types.specs.Goods.{IsGoodWithin, good_level, good_level_Bits, good_level_Struct, good_level_Array, good_low, good_within, fields_within, item_within}
-use Rattle.channel_types.specs.TypeGrammar.{types, token, a_type, field_rule, struct_rule, array_rule, level_rule, type_rule, type_judge, judge_of, Found, field_in, struct_in, array_in, level_in, type_of}
+use Rattle.channel_types.specs.TypeGrammar.{types, token, a_type, field_rule, struct_rule, array_rule, level_rule, type_judge, judge_of, field_in, struct_in, array_in, level_in, type_of}
 use Rattle.channel_types.specs.Judged.{judge-good_level}
 use Rattle.channel_types.specs.TypeAnswers.{IsTypeTree, IsTypeText}
 use Rattle.channel_types.specs.Pieces.{Cut, Piece, join, gap, worth_so, sign_piece, word_piece, bits_piece, count_piece, star_none, star_more}

@@ -1,6 +1,6 @@
 -- What the readers of types answer, as relations between the octets of a text and a type.
 use Rattle.std.specs.Prelude.{◌≡◌, ℕ, ◌++◌, length, Option, Some, None, List, Result, Ok, Err}
-use Rattle.grammar_law.specs.Lexemes.{Lexeme, Lexemes}
+use Rattle.grammar_law.specs.Lexemes.{Lexemes}
 use Rattle.grammar_law.specs.Rule.{Tree}
 use Rattle.grammar_law.specs.Rule.Rule.{call}
 use Rattle.grammar_law.specs.Kinds.{spell}

@@ -3,25 +3,22 @@
 --     type = typeword | "void" | "struct" "<" name ":" type { "," name ":" type } ">" | "array" "<" type "," count ">"
 --
 -- At most 16 types may be open at a place. A type is judged when its last token was read.
-use Rattle.std.specs.Prelude.{◌≡◌, ℕ, zero, suc, Bool, true, false, nat_lt, ◌==◌, ◌||◌, if◌then◌else◌, List, [], ◌∷◌, ◌++◌, map}
-use Rattle.grammar_law.specs.Lexemes.{Lexeme, Lexemes}
+use Rattle.std.specs.Prelude.{ℕ, zero, suc, nat_lt, ◌==◌, ◌||◌, if◌then◌else◌, [], ◌∷◌}
 use Rattle.grammar_law.specs.Rule.{Kinds, Rule, Tree, Grammar, ◌⟫◌}
 use Rattle.grammar_law.specs.Rule.Rule.{one, alt, star, call, judged}
 use Rattle.grammar_law.specs.Kinds.{first, second, inside}
-use Rattle.grammar_law.specs.Trees.{Fault, Judges}
+use Rattle.grammar_law.specs.Trees.{Judges}
 use Rattle.grammar_law.specs.Bridge.{leaf_by, either, items}
 use Rattle.grammar_law.specs.Looser.{no_judge}
 use Rattle.grammar_law.specs.Laws.{Limits}
 use Rattle.esi_lex.specs.declared.token.Token.{Token}
 use Rattle.esi_lex.specs.declared.token.Token.TheVariants.{End}
-use Rattle.esi_lex.specs.declared.token.Class.{Class}
 use Rattle.design_tokens.specs.declared.kind.Kind.{Kind}
 use Rattle.design_tokens.specs.declared.kind.Kind.TheVariants.{Name, TypeWord, Less, Greater, Colon, Comma, Void, Struct, Array}
 use Rattle.design_tokens.specs.Kinds.{code, counts, refusal}
 use Rattle.design_tokens.specs.Grammar.{kind_code, sample, word_in, number_in, width_in}
 use Rattle.channel_types.specs.declared.esi_type.EsiType.{EsiType}
 use Rattle.channel_types.specs.declared.esi_type.EsiType.TheVariants as V
-use Rattle.channel_types.specs.declared.esi_type.EsiType.TheOpen.{EsiType-F}
 use Rattle.channel_types.specs.declared.esi_type.EsiType.TheViews.{out-EsiType}
 use Rattle.channel_types.specs.declared.esi_type.Field.{Field}
 use Rattle.channel_types.specs.Types.{width_of, level_names, has_repeat}

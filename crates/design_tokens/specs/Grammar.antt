@@ -1,6 +1,6 @@
 -- What every grammar of design texts knows of its tokens, and the readers of one token.
-use Rattle.std.specs.Prelude.{◌≡◌, ℕ, ◌==◌, List, [], ◌∷◌, codes, ◌^◌, Option, Some, None, Result, Ok, Err, if◌then◌else◌}
-use Rattle.grammar_law.specs.Rule.{Grammar, Tree}
+use Rattle.std.specs.Prelude.{ℕ, ◌==◌, List, [], ◌∷◌, codes, ◌^◌, Option, Some, None, Result, if◌then◌else◌}
+use Rattle.grammar_law.specs.Rule.{Grammar}
 use Rattle.grammar_law.specs.Simple.{simple}
 use Rattle.grammar_law.specs.Trees.{Fault}
 use Rattle.grammar_law.specs.Readers.{Read, Reader, took, took_any, Reads}

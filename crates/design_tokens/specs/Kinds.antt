@@ -1,14 +1,11 @@
 -- The kinds of tokens that the grammar of the design text tells apart, and the refusal of a token that is not wanted.
-use Rattle.std.specs.Prelude.{ℕ, Bool, true, false, ◌==◌, ◌||◌, ◌&&◌, ◌^◌, not, nat_lt, nat_le, List, [], ◌∷◌, codes, if◌then◌else◌}
+use Rattle.std.specs.Prelude.{ℕ, Bool, false, ◌==◌, ◌||◌, ◌&&◌, ◌^◌, not, nat_lt, nat_le, List, [], ◌∷◌, codes, if◌then◌else◌}
 use Rattle.std.specs.List.{list_all}
 use Rattle.std.specs.Str.{bytes_eq}
-use Rattle.grammar_law.specs.Rule.{Kinds, Grammar}
+use Rattle.grammar_law.specs.Rule.{Kinds}
 use Rattle.grammar_law.specs.Kinds.{among}
-use Rattle.grammar_law.specs.Simple.{simple}
 use Rattle.esi_lex.specs.declared.token.Token.{Token}
 use Rattle.esi_lex.specs.declared.token.Token.TheVariants.{Word, TypeWord as WidthWord, Number, Sign, Faulty, End}
-use Rattle.esi_lex.specs.declared.token.Fault.TheVariants.{UnknownOctet}
-use Rattle.esi_lex.specs.declared.token.Class.TheVariants.{Unsigned}
 use Rattle.esi_lex.specs.Refused.{fault_number}
 use Rattle.design_tokens.specs.declared.kind.Kind.{Kind}
 use Rattle.design_tokens.specs.declared.kind.Kind.TheVariants.{Nothing, Name, TypeWord, One, Small, Great, Semicolon, Colon, Comma, Dot, Equals, OpenBrace, CloseBrace, OpenParenthesis, CloseParenthesis, Less, Greater, OpenBracket, CloseBracket, Esi, Pipe, Stages, Bundle, Service, Module, Top, ToHw, FromHw, Port, In, Out, Request, As, Implement, Inst, Chan, Drive, Stage, Buffer, Fifo, Map, Scan, Fork, Join, AsFifo, AsVr, Void, Struct, Array, Union}

@@ -1,11 +1,10 @@
 -- The names of the design text.
-use Rattle.std.proofs.Common.{◌≡◌, ◌==◌, ℕ, Bool, true, false, if◌then◌else◌, List, [], nat_lt, ◌^◌, refl, ap, ◌∙◌, arith}
-use Rattle.std.proofs.lemmas.Grind.{common_steps}
+use Rattle.std.proofs.Common.{◌≡◌, ◌==◌, ℕ, Bool, true, false, if◌then◌else◌, List, nat_lt, ◌^◌, refl}
 use Rattle.esi_lex.specs.Spellings.{IsWordText, IsSpelled}
 use Rattle.esi_lex.specs.declared.token.Token.{Token}
 use Rattle.esi_lex.specs.declared.token.Token.TheVariants.{Word, TypeWord as WidthWord, Number, Sign, Faulty, End}
 use Rattle.design_tokens.specs.declared.kind.Kind.{Kind}
-use Rattle.design_tokens.specs.declared.kind.Kind.TheVariants.{Nothing, Name, One, Small, Great, Semicolon, Colon, Comma, Dot, Equals, OpenBrace, CloseBrace, OpenParenthesis, CloseParenthesis, Less, Greater, OpenBracket, CloseBracket}
+use Rattle.design_tokens.specs.declared.kind.Kind.TheVariants.{Name, One, Small, Great, Semicolon, Colon, Comma, Dot, Equals, OpenBrace, CloseBrace, OpenParenthesis, CloseParenthesis, Less, Greater, OpenBracket, CloseBracket}
 use Rattle.design_tokens.specs.Kinds.{code, word_kind, number_kind, sign_kind}
 use Rattle.design_tokens.specs.Grammar.{kind_code, word_in}
 

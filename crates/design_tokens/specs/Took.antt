@@ -1,5 +1,5 @@
 -- One token taken or refused, said of the token that a cursor shows.
-use Rattle.std.proofs.Common.{◌≡◌, ℕ, ◌<◌, ◌^◌, ◌==◌, Bool, true, false, List, [], ◌∷◌, Option, Some, None, Ok, Err, refl, sym, ap, ◌∙◌, subst, arith, if◌then◌else◌, nat_lt}
+use Rattle.std.proofs.Common.{◌≡◌, ℕ, ◌<◌, ◌^◌, ◌==◌, Bool, true, false, List, [], ◌∷◌, Option, Some, Ok, Err, refl, sym, ap, ◌∙◌, subst, arith, if◌then◌else◌, nat_lt}
 use Rattle.std.proofs.lemmas.Grind.{common_steps}
 use Rattle.grammar_law.specs.Rule.{Kinds}
 use Rattle.grammar_law.specs.Kinds.{among, first_token, first_lexeme}
@@ -11,9 +11,8 @@ use Rattle.esi_lex.specs.Tokens.{Lexeme, others}
 use Rattle.esi_lex.specs.Tokens as lex
 use Rattle.esi_lex.specs.declared.token.Token.{Token}
 use Rattle.esi_lex.specs.declared.token.Token.TheVariants.{Word, TypeWord as WidthWord, Number, Sign, Faulty, End}
-use Rattle.design_tokens.specs.declared.kind.Kind.{Kind}
 use Rattle.design_tokens.specs.declared.kind.Kind.TheVariants.{One, Small, Great}
-use Rattle.design_tokens.specs.Kinds.{code, counts, kind_of, number_kind}
+use Rattle.design_tokens.specs.Kinds.{code, counts}
 use Rattle.design_tokens.specs.Grammar.{kind_code, token_grammar, number_in}
 
 pub first_is : (ts : List Lexeme) → first_token token_grammar ts ≡ lex.first_token ts

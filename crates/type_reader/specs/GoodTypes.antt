@@ -1,13 +1,11 @@
 -- What is read is good: the judges saw each level, and names are tokens of the kind of names.
-use Rattle.std.proofs.Common.{◌≡◌, ◌==◌, ◌||◌, ◌+◌, ◌≤◌, ℕ, zero, suc, Bool, true, false, if◌then◌else◌, List, [], ◌∷◌, ◌++◌, map, nat_lt, drop, refl, sym, ap, ◌∙◌, subst, arith, add-one}
+use Rattle.std.proofs.Common.{◌≡◌, ◌==◌, ◌+◌, ℕ, zero, suc, Bool, true, false, if◌then◌else◌, List, [], ◌∷◌, ◌++◌, map, drop, refl, sym, subst, arith, add-one}
 use Rattle.std.specs.Prelude.{All}
-use Rattle.std.proofs.lemmas.Bool.Decides.{nat_tests}
 use Rattle.std.proofs.lemmas.List.Elements.{All-nil, All-cons}
-use Rattle.grammar_law.specs.Lexemes.{Lexeme, Lexemes}
-use Rattle.grammar_law.specs.Rule.{Rule, Tree, ◌⟫◌}
+use Rattle.grammar_law.specs.Lexemes.{Lexeme}
+use Rattle.grammar_law.specs.Rule.{Tree, ◌⟫◌}
 use Rattle.grammar_law.specs.Rule.Rule.{star, call}
-use Rattle.grammar_law.specs.Rule.Tree.{leaf, pair, left, right, turn, last, node, held}
-use Rattle.grammar_law.specs.Kinds.{among, spell, first, second, inside}
+use Rattle.grammar_law.specs.Kinds.{among, spell, second, inside}
 use Rattle.grammar_law.specs.Trees.{Fits}
 use Rattle.grammar_law.specs.Trees.Fits.{fits_one, fits_seq, fits_left, fits_right, fits_last, fits_turn, fits_call, fits_judged}
 use Rattle.grammar_law.specs.Nested.{NodeOf, NoTree, TooDeep, shut}
@@ -16,7 +14,6 @@ use Rattle.grammar_law.specs.Levels.{all_own}
 use Rattle.grammar_law.specs.Bridge.{items}
 use Rattle.esi_lex.specs.Spellings.{AreSpelled}
 use Rattle.esi_lex.specs.WordTexts.{spelled_first, spelled_second, words_spelled}
-use Rattle.esi_lex.specs.Tokens.{tokens}
 use Rattle.esi_lex.specs.declared.token.Token.{Token}
 use Rattle.design_tokens.specs.declared.kind.Kind.TheVariants.{Comma}
 use Rattle.design_tokens.specs.Grammar.{kind_code, word_in, number_in, width_in}
@@ -27,7 +24,7 @@ use Rattle.channel_types.specs.declared.esi_type.EsiType.TheVariants.{outs-Bits,
 use Rattle.channel_types.specs.declared.esi_type.EsiType.TheOpen.{EsiType-F}
 use Rattle.channel_types.specs.declared.esi_type.EsiType.TheViews.{out-EsiType}
 use Rattle.channel_types.specs.declared.esi_type.Field.{Field}
-use Rattle.channel_types.specs.Types.{width_of, name_of, has_repeat, level_width, level_names, IsLevel, IsGoodType}
+use Rattle.channel_types.specs.Types.{name_of, level_names, IsLevel, IsGoodType}
 use Rattle.channel_types.specs.Judged.{level_judged_good}
 use Rattle.channel_types.specs.Goods.{IsGoodWithin, good_bits, good_void, good_struct, good_array, good_deeper, good_type}
 use Rattle.channel_types.specs.TypeGrammar.{types, token, field_rule, struct_rule, array_rule, level_rule, type_rule, type_judge, judge_of, Found, field_in, struct_in, array_in, level_in, type_of}

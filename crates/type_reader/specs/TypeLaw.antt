@@ -1,19 +1,19 @@
 -- The readers of types read exactly the grammar.
-use Rattle.std.proofs.Common.{◌≡◌, ◌<◌, ℕ, zero, suc, Bool, true, false, if◌then◌else◌, ◌==◌, List, [], ◌∷◌, ◌++◌, length, Option, Some, None, Ok, Err, refl, sym, ap, ◌∙◌, cond}
+use Rattle.std.proofs.Common.{◌≡◌, ℕ, zero, suc, Bool, true, false, if◌then◌else◌, ◌==◌, List, [], ◌∷◌, ◌++◌, Ok, Err, refl, sym, ap, ◌∙◌}
 use Rattle.grammar_law.specs.Lexemes.{Lexemes, first_place}
 use Rattle.grammar_law.specs.Rule.{Kinds, Rule, Tree, ◌⟫◌}
-use Rattle.grammar_law.specs.Rule.Rule.{one, alt, star, call, judged}
-use Rattle.grammar_law.specs.Rule.Tree.{node, pair}
-use Rattle.grammar_law.specs.Kinds.{among, first, second, inside, first_kind, first_token, is_bare, starts}
-use Rattle.grammar_law.specs.Parse.{Answer, Parser, parse, wrap}
+use Rattle.grammar_law.specs.Rule.Rule.{one, star}
+use Rattle.grammar_law.specs.Rule.Tree.{node}
+use Rattle.grammar_law.specs.Kinds.{among, first, second, inside, first_kind, first_token, is_bare}
+use Rattle.grammar_law.specs.Parse.{Answer, Parser, parse}
 use Rattle.grammar_law.specs.Parse.Halt.{unwanted, broken}
 use Rattle.grammar_law.specs.Trees.{Judges}
 use Rattle.grammar_law.specs.Nested.{NoTree, TooDeep, shut}
 use Rattle.grammar_law.specs.Tower.{tower, TowerTree, TowerBreak}
 use Rattle.grammar_law.specs.Levels.{all_own, no_base, tower_readable}
 use Rattle.grammar_law.specs.Whole.{Readable, begins_alike, first_there}
-use Rattle.grammar_law.specs.Readers.{Reader, Read, pure, judging, ◌>>=◌, ◌>>◌, and_then, took, took_any, refused}
-use Rattle.grammar_law.specs.Bridge.{Sees, AreTold, told_so, seen, leaf_by, either, items, through, through_items, took_seen, any_took_seen, map_seen, seq_seen, alt_seen, star_seen, judged_seen, seen_wrap}
+use Rattle.grammar_law.specs.Readers.{Reader, judging, took, took_any, refused}
+use Rattle.grammar_law.specs.Bridge.{Sees, AreTold, told_so, seen, leaf_by, items, through, through_items, took_seen, any_took_seen, map_seen, seq_seen, alt_seen, star_seen, judged_seen, seen_wrap}
 use Rattle.esi_lex.specs.Tokens.{Lexeme}
 use Rattle.esi_lex.specs.declared.token.Token.{Token}
 use Rattle.esi_lex.specs.declared.token.Token.TheVariants.{Word, TypeWord as WidthWord, Number, Sign, Faulty, End}
@@ -23,7 +23,7 @@ use Rattle.design_tokens.specs.Kinds.{code, counts, refusal, unwanted as unwante
 use Rattle.design_tokens.specs.Grammar.{token_grammar, kind_code, expect, name, count, type_word, word_in, number_in, width_in}
 use Rattle.channel_types.specs.declared.esi_type.EsiType.TheVariants as V
 use Rattle.channel_types.specs.declared.esi_type.Field.{Field}
-use Rattle.channel_types.specs.TypeGrammar.{types, token, a_type, field_rule, struct_rule, array_rule, level_rule, type_rule, type_starts, judge_of, Found, end_in, field_in, struct_in, array_in, level_in, type_of, type_judge}
+use Rattle.channel_types.specs.TypeGrammar.{types, token, a_type, field_rule, struct_rule, array_rule, level_rule, type_rule, type_starts, judge_of, end_in, field_in, struct_in, array_in, level_in, type_of, type_judge}
 use Rattle.channel_types.specs.Decided.{type_calls}
 use Rattle.type_reader.specs.TypeReading.{bits, void, field, one_more, more_fields, struct_type, array_type, level, too_deep, type_at}
 

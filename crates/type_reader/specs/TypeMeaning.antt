@@ -1,22 +1,17 @@
 -- What the readers of types answer is what the grammar says of the text.
-use Rattle.std.proofs.Common.{◌≡◌, ℕ, ◌++◌, List, [], ◌∷◌, true, Option, Some, None, Result, Ok, Err, refl, sym, ap, ◌∙◌, subst, append-nil}
+use Rattle.std.proofs.Common.{◌≡◌, ℕ, List, [], ◌∷◌, Result, Ok, Err, refl, sym, ap, ◌∙◌, subst}
 use Rattle.grammar_law.specs.Lexemes.{Lexemes}
 use Rattle.grammar_law.specs.Rule.{Tree}
 use Rattle.grammar_law.specs.Rule.Rule.{call}
-use Rattle.grammar_law.specs.Kinds.{spell}
 use Rattle.grammar_law.specs.Trees.{Fault, Fits}
 use Rattle.grammar_law.specs.Trees.Fits.{fits_call}
 use Rattle.grammar_law.specs.Looser.{no_judge}
 use Rattle.grammar_law.specs.Nested.{NoTree, TooDeep, shut}
-use Rattle.grammar_law.specs.Tower.{TowerTree, TowerBreak}
+use Rattle.grammar_law.specs.Tower.{TowerTree}
 use Rattle.grammar_law.specs.Levels.{all_own, no_base, tower_readable}
-use Rattle.grammar_law.specs.Texts.{StopsAt}
 use Rattle.grammar_law.specs.Whole.{Readable, IsFrontOf, IsTextOf, front_found, front_only, front_refused, found, only, stops, ok_value}
-use Rattle.grammar_law.specs.Readers.{Read, Fails, ended}
+use Rattle.grammar_law.specs.Readers.{Read, Fails}
 use Rattle.grammar_law.specs.Bridge.{AreTold}
-use Rattle.esi_base.specs.declared.place.Refusal.{Refusal}
-use Rattle.esi_base.specs.declared.place.Stop.{Stop}
-use Rattle.esi_base.specs.declared.place.Stop.TheVariants.{Refused, NoMemory}
 use Rattle.esi_lex.specs.Tokens.{tokens}
 use Rattle.esi_lex.specs.declared.token.Token.{Token}
 use Rattle.design_tokens.specs.declared.kind.Kind.TheVariants.{Nothing}
@@ -28,7 +23,7 @@ use Rattle.design_tokens.specs.declared.reading.Halt.TheVariants as HaltCases
 use Rattle.channel_types.specs.declared.esi_type.EsiType.{EsiType}
 use Rattle.channel_types.specs.TypeGrammar.{types, type_judge, type_of, Found}
 use Rattle.channel_types.specs.Decided.{type_calls}
-use Rattle.channel_types.specs.TypeAnswers.{IsTypeTree, TypeBreak, IsTypeAt, IsTypeText, refusal_at, StopsToBeType, IfRefused, OkUnlessMemory}
+use Rattle.channel_types.specs.TypeAnswers.{IsTypeTree, TypeBreak, IsTypeAt, IsTypeText, refusal_at, StopsToBeType}
 use Rattle.type_reader.specs.TypeReading.{type_at, whole_text, Answers}
 use Rattle.type_reader.specs.TypeLaw.{env, type_seen, told_alike}
 

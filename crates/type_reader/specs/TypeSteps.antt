@@ -1,6 +1,6 @@
 -- The steps of the readers, for the loop over a struct's fields.
-use Rattle.std.proofs.Common.{◌≡◌, ℕ, ◌<◌, ◌==◌, true, false, List, [], ◌∷◌, ◌++◌, length, Ok, Err, refl, sym, ap, ◌∙◌, subst}
-use Rattle.grammar_law.specs.Rule.{Tree, ◌⟫◌}
+use Rattle.std.proofs.Common.{◌≡◌, ℕ, ◌<◌, ◌==◌, true, false, List, [], ◌∷◌, ◌++◌, length, Ok, refl, ap, ◌∙◌}
+use Rattle.grammar_law.specs.Rule.{◌⟫◌}
 use Rattle.grammar_law.specs.Kinds.{among, second}
 use Rattle.grammar_law.specs.Lexemes.{Lexemes}
 use Rattle.grammar_law.specs.Among.{by_false, by_true}
@@ -13,7 +13,7 @@ use Rattle.design_tokens.specs.Grammar.{kind_code}
 use Rattle.design_tokens.specs.Took.{first_is}
 use Rattle.channel_types.specs.declared.esi_type.Field.{Field}
 use Rattle.channel_types.specs.TypeGrammar.{types, token, field_rule, field_in, type_of, type_judge, Found}
-use Rattle.grammar_law.specs.Readers.{Reader, on}
+use Rattle.grammar_law.specs.Readers.{Reader}
 use Rattle.grammar_law.specs.Kinds.{first_token}
 use Rattle.type_reader.specs.TypeReading.{one_more, type_at, level, array_type}
 use Rattle.type_reader.specs.TypeLaw.{env, readable, type_seen, one_more_seen}

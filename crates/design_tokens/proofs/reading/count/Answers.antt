@@ -1,9 +1,6 @@
-use Rattle.std.proofs.Common.{◌≡◌, ◌<◌, ◌^◌, true, Ok, refl, ap, sym, ◌∙◌, subst, arith}
-use Rattle.grammar_law.specs.Kinds.{among}
-use Rattle.esi_lex.specs.Tokens.{first_token}
-use Rattle.design_tokens.specs.Took.{any_made, any_refused, fails_with, worth_is, count_small}
-use Rattle.design_tokens.specs.Kinds.{counts}
-use Rattle.design_tokens.specs.Grammar.{number_in, kind_code}
+use Rattle.std.proofs.Common.{◌∙◌}
+use Rattle.design_tokens.specs.Took.{any_made, any_refused, fails_with, worth_is}
+use Rattle.design_tokens.specs.Grammar.{number_in}
 use Rattle.design_tokens.proofs.reading.count.Goals as goal
 
 pub returns-then-not-is_count : goal.returns-then-not-is_count

@@ -1,6 +1,5 @@
-use Rattle.std.proofs.Common.{◌≡◌, Ok, refl, ap, sym, ◌∙◌}
+use Rattle.std.proofs.Common.{◌∙◌}
 use Rattle.design_tokens.specs.Took.{took_made, took_refused, fails_with}
-use Rattle.design_tokens.specs.Kinds.{code}
 use Rattle.design_tokens.proofs.reading.expect.Goals as goal
 
 pub returns-then-not-is_same : goal.returns-then-not-is_same

@@ -1,4 +1,4 @@
-use Rattle.std.proofs.Common.{◌≡◌, Ok, refl, ap, sym, ◌∙◌}
+use Rattle.std.proofs.Common.{◌∙◌}
 use Rattle.design_tokens.specs.Took.{took_made, took_refused, fails_with, worth_is}
 use Rattle.design_tokens.specs.Grammar.{width_in}
 use Rattle.design_tokens.proofs.reading.type_word.Goals as goal

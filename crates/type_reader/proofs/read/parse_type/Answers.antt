@@ -1,4 +1,4 @@
-use Rattle.std.proofs.Common.{◌≡◌, sym, subst}
+use Rattle.std.proofs.Common.{sym, subst}
 use Rattle.channel_types.specs.TypeAnswers.{StopsToBeType}
 use Rattle.type_reader.specs.TypeMeaning.{text_found, text_refused, text_one, text_none, told_whole}
 use Rattle.type_reader.specs.GoodTypes.{text_good}

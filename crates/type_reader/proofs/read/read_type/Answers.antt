@@ -1,4 +1,4 @@
-use Rattle.std.proofs.Common.{◌≡◌, sym, subst}
+use Rattle.std.proofs.Common.{sym, subst}
 use Rattle.type_reader.specs.TypeMeaning.{at_found, at_refused, at_one, at_none, told_fails}
 use Rattle.channel_types.specs.TypeAnswers.{StopsToBeType}
 use Rattle.type_reader.specs.GoodTypes.{at_good}

@@ -1,6 +1,6 @@
-use Rattle.std.proofs.Common.{◌≡◌, [], ◌∷◌, Ok, Err, ℕ, ◌<◌, length, refl, sym, ap, ◌∙◌, subst, arith}
+use Rattle.std.proofs.Common.{[], ◌∷◌, Err, refl, sym, ap, ◌∙◌, subst}
 use Rattle.std.proofs.lemmas.Result.{err_from_is_err_and}
-use Rattle.grammar_law.specs.Turns.{turning_begun, turning_ended, turning_fails, turning_more, reads_err}
+use Rattle.grammar_law.specs.Turns.{turning_ended, turning_fails, turning_more, reads_err}
 use Rattle.design_tokens.specs.Grammar.{AnswersAt, told}
 use Rattle.channel_types.specs.TypeGrammar.{types}
 use Rattle.type_reader.specs.TypeReading as spec

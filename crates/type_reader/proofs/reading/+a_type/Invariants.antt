@@ -1,4 +1,4 @@
-use Rattle.std.proofs.Common.{ℕ, ◌+◌, ◌*◌, [], ◌∷◌, length}
+use Rattle.std.proofs.Common.{◌+◌, ◌*◌, [], ◌∷◌, length}
 use Rattle.grammar_law.specs.Turns.{Turning}
 use Rattle.channel_types.specs.TypeGrammar.{types}
 use Rattle.type_reader.specs.TypeReading as spec
