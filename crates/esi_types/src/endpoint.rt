@@ -1,0 +1,16 @@
+//! An end of a channel.
+ghost use Rattle.channel_types.specs.Types.{IsGoodType};
+
+use channel_types::EsiType;
+use esi_base::Octets;
+
+/// An end of a channel at the edge of a design: its name, and the type of what goes through it. It keeps
+/// that the type is good.
+#[derive(Debug, Drop)]
+pub struct Endpoint {
+    pub name: Octets,
+    pub ty: EsiType,
+
+    // A call that asks for a good type takes this fact by the lemma `kept_is_good` of specs/GoodTypes.antt.
+    pub ghost good: { ∥ IsGoodType ty ∥₁ },
+}
