@@ -10,3 +10,4 @@ mod tests;
 pub use channel_types::{Class, EsiType, Field};
 pub use directory::{Directory, SIDE_ENDPOINTS, Side};
 pub use endpoint::Endpoint;
+pub use type_reader::{parse_type, read_type};
