@@ -51,6 +51,9 @@ pub fn run_sim<F: Files, O: Sink, E: Sink>(
     ensures both_read { IsJudged result.status → OnTwo (map string_bytes names.now) (λ design stimulus.
         NotesInOrder 1 (F.log files.old) (F.log files.new) design stimulus) }
     ensures none_read { result.status ≡ 1 → F.log files.new ≡ F.log files.old }
+
+    // Where a text was judged both files could be read, and no count of a failed read rose. The same of
+    // what was written.
     ensures readable { IsJudged result.status → OnTwo (map string_bytes names.now) (λ design stimulus.
         (F.unreadable files.old design ≡ false) × (F.unreadable files.old stimulus ≡ false)) }
     ensures quiet_reads { IsJudged result.status → SameCounts (F.read_faults files.old) (F.read_faults files.new) }
