@@ -1,7 +1,7 @@
 //! The files of a simulation: read whole, and then judged.
 ghost use Rattle.std.specs.Prelude.{◌≡◌, ◌⊎◌, ◌≤◌, ℕ, List, false, IfOk, Err};
 ghost use Rattle.esi_links.specs.Counts.{Later, Rose, SameCounts};
-ghost use Rattle.esi_links.specs.ReadLog.{NotesOne, NotesInOrder};
+ghost use Rattle.esi_links.specs.ReadLog.{NotesInOrder};
 ghost use Rattle.esi_links.specs.Texts.{SameTexts, ReadUpTo};
 ghost use Rattle.esi_cosim.specs.Ends.{JudgesTold, WasJudged, ending_of_read};
 ghost use Rattle.cycle_rules.specs.Stimulated.{cycles_in};
