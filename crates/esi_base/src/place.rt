@@ -7,7 +7,9 @@ use std::alloc::{AllocError, AllocFailed};
 /// A place in a text. Line and column count from 1, and a column counts octets.
 #[derive(Clone, Copy, Debug, PartialEq, Eq)]
 pub struct Place {
+    /// The line, from 1.
     pub line: u32,
+    /// The column in the line, in octets, from 1.
     pub column: u32,
 }
 
@@ -38,7 +40,9 @@ impl Place {
 /// A text is refused: the number of the rule that it breaks, and where.
 #[derive(Clone, Copy, Debug, PartialEq, Eq)]
 pub struct Refusal {
+    /// The rule's number.
     pub number: u16,
+    /// Where the text breaks it.
     pub place: Place,
 }
 

@@ -100,11 +100,15 @@ first_told None d s result p h = tt
 first_told (Some x) d s result p h =
     subst (λ meaning. JudgesFirst (meaning >>= stages_of) result) (sym (ap design_of p) ∙ design_cut x) (judges_first d s result h)
 
+-- a text that stayed was read as it is told
+pub read_same : (limit : ℕ) (before now : Option (List ℕ)) (octets : List ℕ) → ReadUpTo limit now octets → now ≡ before → ReadUpTo limit before octets
+read_same limit before now octets read same = subst (λ told. ReadUpTo limit told octets) same read
+
 -- what was judged of the texts read is what the texts told mean
-pub judges_told : (design stimulus stimulus' : Option (List ℕ)) (d s : List ℕ) (result : Result Input Ending) → ReadUpTo 1048576 design d → stimulus' ≡ stimulus → ReadUpTo 4194304 stimulus' s
-    → Judges (judged d s) result → CanEnd result → JudgesTold design stimulus result
-judges_told design stimulus stimulus' d s result p same q h possible = record {
+pub judges_told : (design stimulus : Option (List ℕ)) (d s : List ℕ) (result : Result Input Ending) → Judges (judged d s) result → CanEnd result
+    → ReadUpTo 1048576 design d → ReadUpTo 4194304 stimulus s → JudgesTold design stimulus result
+judges_told design stimulus d s result h possible p q = record {
   first = first_told design d s result p.front h;
-  told = both_told design stimulus d s result p.front (subst (λ told. IfSome told (λ text. take (4194304 + 1) text ≡ s)) same q.front) h;
+  told = both_told design stimulus d s result p.front q.front h;
   possible = possible;
 }

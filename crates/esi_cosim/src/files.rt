@@ -1,6 +1,7 @@
 //! The files of a simulation: read whole, and then judged.
-ghost use Rattle.std.specs.Prelude.{◌≡◌, ◌⊎◌, ◌≤◌, false, IfOk, Err};
+ghost use Rattle.std.specs.Prelude.{◌≡◌, ◌⊎◌, ◌≤◌, ℕ, List, false, IfOk, Err};
 ghost use Rattle.esi_links.specs.Counts.{Later, Rose, SameCounts};
+ghost use Rattle.esi_links.specs.ReadLog.{NotesInOrder};
 ghost use Rattle.esi_links.specs.Texts.{SameTexts, ReadUpTo};
 ghost use Rattle.esi_cosim.specs.Ends.{JudgesTold, WasJudged, ending_of_read};
 ghost use Rattle.cycle_rules.specs.Stimulated.{cycles_in};
@@ -18,6 +19,7 @@ const DESIGN_LIMIT: usize = 1_048_576;
 const STIMULUS_LIMIT: usize = 4_194_304;
 
 /// Reads the design and the stimulus, both whole, and judges them in this order.
+#[tactic(auto, using(esi_links::proofs::NotesJoined::order_begun, esi_links::proofs::NotesJoined::order_join))]
 pub fn read_input<F: Files>(
     alloc: Global,
     files: &mut F,
@@ -31,8 +33,11 @@ pub fn read_input<F: Files>(
         ⊎ Rose (F.read_faults files.old stimulus.now) (F.read_faults files.new stimulus.now) }
     ensures readable { WasJudged result
         → (F.unreadable files.old design.now ≡ false) × (F.unreadable files.old stimulus.now ≡ false) }
+    ensures order { NotesInOrder 0 (F.log files.old) (F.log files.new) design.now stimulus.now }
+    ensures both_read { WasJudged result → NotesInOrder 1 (F.log files.old) (F.log files.new) design.now stimulus.now }
     ensures quiet { WasJudged result → SameCounts (F.read_faults files.old) (F.read_faults files.new) }
     ensures texts { SameTexts (F.text files.old) (F.text files.new) }
+    ensures unreadables { (other : List ℕ) → F.unreadable files.new other ≡ F.unreadable files.old other }
     ensures reads { Later (F.read_faults files.old) (F.read_faults files.new) }
     ensures writes { Later (F.write_faults files.old) (F.write_faults files.new) }
 {

@@ -21,7 +21,9 @@ const ENTRANCE: &[u8] = b"in";
 /// What a simulation is given: a pipe of 1 to 64 stages, and the steps that drive it.
 #[derive(Debug, Drop)]
 pub struct Input {
+    /// How many stages the pipe has.
     pub stages: u32,
+    /// The steps, in order.
     pub steps: List<Drive>,
 }
 
@@ -67,7 +69,7 @@ fn judge_stimulus(alloc: Global, text: &[u8]) -> Result<List<Drive>, Stop>
 }
 
 /// How many stages the design's pipe has: 1 to 64, else it is refused with 312 at the number.
-pub fn stages(design: &Design) -> Result<u32, Stop>
+fn stages(design: &Design) -> Result<u32, Stop>
     ensures reads { Reads (stages_of design.now) result }
     ensures bounds { IfOk result (λ stages. stages ≤ 64) }
 {
@@ -84,7 +86,7 @@ pub fn stages(design: &Design) -> Result<u32, Stop>
 
 /// What all steps of a stimulus do to a pipe of octets: 224 at a name other than `in`, 225 at octets
 /// that are not one, the first of them.
-pub fn drives(alloc: Global, steps: &[Step]) -> Result<List<Drive>, Stop>
+fn drives(alloc: Global, steps: &[Step]) -> Result<List<Drive>, Stop>
     ensures { Reads (drives_of steps.now) result }
 {
     let mut drives = List::new(alloc);

@@ -36,7 +36,9 @@ pub enum Told {
 pub struct Outcome {
     /// 0 Ok, 1 usage, 2 refused, 3 read fault, 4 write fault, 8 no memory.
     pub status: u8,
+    /// What the status's line tells beside the status.
     pub cause: Cause,
+    /// Whether that line was written.
     pub told: Told,
     /// What a served session tells at its end; None for a command that serves none.
     pub report: Option<Report>,

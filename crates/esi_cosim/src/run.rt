@@ -1,6 +1,7 @@
 //! The top call: one command, from its words to its outcome.
-ghost use Rattle.std.specs.Prelude.{◌≡◌, ◌⊎◌, ◌≤◌, ◌↔◌, false, None, map, string_bytes};
+ghost use Rattle.std.specs.Prelude.{◌≡◌, ◌⊎◌, ◌≤◌, ◌↔◌, ℕ, List, false, None, map, string_bytes};
 ghost use Rattle.esi_links.specs.Counts.{Later, Rose, SameCounts};
+ghost use Rattle.esi_links.specs.ReadLog.{NotesInOrder};
 ghost use Rattle.esi_links.specs.Texts.{SameTexts};
 ghost use Rattle.esi_cosim.specs.Statuses.{IsStatus, IsJudged, IsSilent, line_told};
 ghost use Rattle.esi_cosim.specs.Ends.{OnSim, MatchesNone, names_of, PrintsAll, PrintsFront, PrintsSome, TellsRefusal, IsPlain, Tells};
@@ -40,7 +41,15 @@ pub fn run<F: Files, O: Sink, E: Sink, L: Links>(
         ⊎ Rose (F.read_faults files.old stimulus) (F.read_faults files.new stimulus)) }
     ensures write_fault { result.status ≡ 4 → Rose (O.faults out.old) (O.faults out.new) }
 
-    // Both files were read before a text was judged, and the first failure ends the run.
+    // The files are read in the order of the words, and both of them before a text is judged.
+    ensures order { OnSim (map string_bytes words.now) (λ design stimulus.
+        NotesInOrder 0 (F.log files.old) (F.log files.new) design stimulus) }
+    ensures both_read { IsJudged result.status → OnSim (map string_bytes words.now) (λ design stimulus.
+        NotesInOrder 1 (F.log files.old) (F.log files.new) design stimulus) }
+    ensures none_read { result.status ≡ 1 → F.log files.new ≡ F.log files.old }
+
+    // Where a text was judged both files could be read, and no count of a failed read rose. The same of
+    // what was written.
     ensures readable { IsJudged result.status → OnSim (map string_bytes words.now) (λ design stimulus.
         (F.unreadable files.old design ≡ false) × (F.unreadable files.old stimulus ≡ false)) }
     ensures quiet_reads { IsJudged result.status → SameCounts (F.read_faults files.old) (F.read_faults files.new) }
@@ -65,6 +74,7 @@ pub fn run<F: Files, O: Sink, E: Sink, L: Links>(
     ensures report { result.report ≡ None }
     ensures links { links.new ≡ links.old }
     ensures texts { SameTexts (F.text files.old) (F.text files.new) }
+    ensures unreadables { (other : List ℕ) → F.unreadable files.new other ≡ F.unreadable files.old other }
     ensures read_counts { Later (F.read_faults files.old) (F.read_faults files.new) }
     ensures write_counts { Later (F.write_faults files.old) (F.write_faults files.new) }
     ensures out_count { O.faults out.old ≤ O.faults out.new }

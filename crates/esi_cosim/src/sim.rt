@@ -1,6 +1,7 @@
 //! `sim DESIGN STIM`: simulates a design by a stimulus, and prints what it hands out.
-ghost use Rattle.std.specs.Prelude.{◌≡◌, ◌⊎◌, ◌≤◌, ◌<◌, ◌^◌, ◌↔◌, false, length, map, string_bytes, IfOk};
+ghost use Rattle.std.specs.Prelude.{◌≡◌, ◌⊎◌, ◌≤◌, ◌<◌, ◌^◌, ◌↔◌, ℕ, List, false, length, map, string_bytes, IfOk};
 ghost use Rattle.esi_links.specs.Counts.{Later, Rose, SameCounts};
+ghost use Rattle.esi_links.specs.ReadLog.{NotesInOrder};
 ghost use Rattle.esi_links.specs.Texts.{SameTexts};
 ghost use Rattle.cycle_rules.specs.Stimulated.{cycles_in};
 ghost use Rattle.esi_cosim.specs.Output.{output_of};
@@ -44,7 +45,15 @@ pub fn run_sim<F: Files, O: Sink, E: Sink>(
         ⊎ Rose (F.read_faults files.old stimulus) (F.read_faults files.new stimulus)) }
     ensures write_fault { result.status ≡ 4 → Rose (O.faults out.old) (O.faults out.new) }
 
-    // Both files were read before a text was judged, and the first failure ends the run.
+    // The files are read in the order of the words, and both of them before a text is judged.
+    ensures order { OnTwo (map string_bytes names.now) (λ design stimulus.
+        NotesInOrder 0 (F.log files.old) (F.log files.new) design stimulus) }
+    ensures both_read { IsJudged result.status → OnTwo (map string_bytes names.now) (λ design stimulus.
+        NotesInOrder 1 (F.log files.old) (F.log files.new) design stimulus) }
+    ensures none_read { result.status ≡ 1 → F.log files.new ≡ F.log files.old }
+
+    // Where a text was judged both files could be read, and no count of a failed read rose. The same of
+    // what was written.
     ensures readable { IsJudged result.status → OnTwo (map string_bytes names.now) (λ design stimulus.
         (F.unreadable files.old design ≡ false) × (F.unreadable files.old stimulus ≡ false)) }
     ensures quiet_reads { IsJudged result.status → SameCounts (F.read_faults files.old) (F.read_faults files.new) }
@@ -68,6 +77,7 @@ pub fn run_sim<F: Files, O: Sink, E: Sink>(
     // What stays, and that no count falls.
     ensures report { result.report ≡ None }
     ensures texts { SameTexts (F.text files.old) (F.text files.new) }
+    ensures unreadables { (other : List ℕ) → F.unreadable files.new other ≡ F.unreadable files.old other }
     ensures read_counts { Later (F.read_faults files.old) (F.read_faults files.new) }
     ensures write_counts { Later (F.write_faults files.old) (F.write_faults files.new) }
     ensures out_count { O.faults out.old ≤ O.faults out.new }
@@ -87,12 +97,18 @@ fn ending<F: Files, O: Sink>(alloc: Global, names: &[String], files: &mut F, out
     ensures read_fault { result ≡ Ending.ReadFault → OnTwo (map string_bytes names.now) (λ design stimulus.
         Rose (F.read_faults files.old design) (F.read_faults files.new design)
         ⊎ Rose (F.read_faults files.old stimulus) (F.read_faults files.new stimulus)) }
+    ensures order { OnTwo (map string_bytes names.now) (λ design stimulus.
+        NotesInOrder 0 (F.log files.old) (F.log files.new) design stimulus) }
+    ensures both_read { EndsJudged result → OnTwo (map string_bytes names.now) (λ design stimulus.
+        NotesInOrder 1 (F.log files.old) (F.log files.new) design stimulus) }
+    ensures none_read { result ≡ Ending.Usage → F.log files.new ≡ F.log files.old }
     ensures readable { EndsJudged result → OnTwo (map string_bytes names.now) (λ design stimulus.
         (F.unreadable files.old design ≡ false) × (F.unreadable files.old stimulus ≡ false)) }
     ensures quiet_reads { EndsJudged result → SameCounts (F.read_faults files.old) (F.read_faults files.new) }
     ensures quiet_out { result ≡ Ending.Done → O.faults out.new ≡ O.faults out.old }
     ensures write_fault { result ≡ Ending.WriteFault → Rose (O.faults out.old) (O.faults out.new) }
     ensures texts { SameTexts (F.text files.old) (F.text files.new) }
+    ensures unreadables { (other : List ℕ) → F.unreadable files.new other ≡ F.unreadable files.old other }
     ensures reads { Later (F.read_faults files.old) (F.read_faults files.new) }
     ensures writes { Later (F.write_faults files.old) (F.write_faults files.new) }
     ensures outs { O.faults out.old ≤ O.faults out.new }
@@ -117,12 +133,15 @@ fn simulate_files<F: Files, O: Sink>(
     ensures read_fault { result ≡ Ending.ReadFault
         → Rose (F.read_faults files.old design.now) (F.read_faults files.new design.now)
         ⊎ Rose (F.read_faults files.old stimulus.now) (F.read_faults files.new stimulus.now) }
+    ensures order { NotesInOrder 0 (F.log files.old) (F.log files.new) design.now stimulus.now }
+    ensures both_read { EndsJudged result → NotesInOrder 1 (F.log files.old) (F.log files.new) design.now stimulus.now }
     ensures readable { EndsJudged result
         → (F.unreadable files.old design.now ≡ false) × (F.unreadable files.old stimulus.now ≡ false) }
     ensures quiet_reads { EndsJudged result → SameCounts (F.read_faults files.old) (F.read_faults files.new) }
     ensures quiet_out { result ≡ Ending.Done → O.faults out.new ≡ O.faults out.old }
     ensures write_fault { result ≡ Ending.WriteFault → Rose (O.faults out.old) (O.faults out.new) }
     ensures texts { SameTexts (F.text files.old) (F.text files.new) }
+    ensures unreadables { (other : List ℕ) → F.unreadable files.new other ≡ F.unreadable files.old other }
     ensures reads { Later (F.read_faults files.old) (F.read_faults files.new) }
     ensures writes { Later (F.write_faults files.old) (F.write_faults files.new) }
     ensures outs { O.faults out.old ≤ O.faults out.new }

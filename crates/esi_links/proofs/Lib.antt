@@ -1,3 +1,4 @@
 pub mod GrowthJoined
 pub mod LogSteps
+pub mod NotesJoined
 pub mod PieceRead

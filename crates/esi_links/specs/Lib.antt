@@ -5,5 +5,6 @@ pub mod Fresh
 pub mod Growth
 pub mod Held
 pub mod LinkLog
+pub mod ReadLog
 pub mod SureLog
 pub mod Texts

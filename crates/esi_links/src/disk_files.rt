@@ -30,6 +30,8 @@ impl<R: rt::Files> Files for DiskFiles<R> {
 
     ghost unreadable = { λ _ _. false };
 
+    ghost log = { λ _. None };
+
     ghost read_faults = { λ files _. disk_faults files };
 
     ghost write_faults = { λ files _. disk_faults files };

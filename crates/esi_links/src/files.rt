@@ -1,6 +1,7 @@
 //! Files, as a program reaches them.
-ghost use Rattle.std.specs.Prelude.{◌≡◌, ℕ, ◌<◌, ◌≤◌, Bool, false, List, Option, length, take, IfOk, OnOk, IfSome, IsSome, IsErrOf};
+ghost use Rattle.std.specs.Prelude.{◌≡◌, ◌≢◌, ℕ, ◌<◌, ◌≤◌, Bool, false, List, Option, length, take, IfOk, OnOk, IfSome, IsSome, IsErrOf};
 ghost use Rattle.esi_links.specs.Counts.{Later, HasCauseAt, SameCounts};
+ghost use Rattle.esi_links.specs.ReadLog.{NotesRead};
 ghost use Rattle.esi_links.specs.Texts.{PieceAt, SameTexts, SameElsewhere};
 
 use crate::OutStop;
@@ -15,6 +16,10 @@ pub trait Files {
 
     /// Whether nothing can be read under a name, so that every read there fails.
     ghost unreadable: { Self → List ℕ → Bool };
+
+    /// The names under which reads were made, in their order, if they are told. A read that failed is
+    /// noted too; one for which memory could not be had is not.
+    ghost log: { Self → Option (List (List ℕ)) };
 
     /// How many reads under a name failed.
     ghost read_faults: { Self → List ℕ → ℕ };
@@ -33,6 +38,7 @@ pub trait Files {
         ensures readable { OnOk result (unreadable self.old name.now ≡ false) }
         ensures texts { SameTexts (text self.old) (text self.new) }
         ensures unreadables { (other : List ℕ) → unreadable self.new other ≡ unreadable self.old other }
+        ensures log { NotesRead (log self.old) (log self.new) name.now result }
         ensures quiet { OnOk result (SameCounts (read_faults self.old) (read_faults self.new)) }
         ensures cause { HasCauseAt (read_faults self.old) (read_faults self.new) name.now result }
         ensures writes { Later (write_faults self.old) (write_faults self.new) }
@@ -48,9 +54,13 @@ pub trait Files {
         ensures told { IfSome (text self.old name.now) (λ _. IsSome (text self.new name.now)) }
         ensures quiet { OnOk result (SameCounts (write_faults self.old) (write_faults self.new)) }
         ensures elsewhere { SameElsewhere name.now (text self.old) (text self.new) }
+        ensures unreadables { (other : List ℕ) → other ≢ name.now → unreadable self.new other ≡ unreadable self.old other }
+        ensures log { log self.new ≡ log self.old }
         ensures cause { HasCauseAt (write_faults self.old) (write_faults self.new) name.now result }
         ensures reads { Later (read_faults self.old) (read_faults self.new) }
         ensures no_memory_texts { IsErrOf result OutStop.NoMemory → SameTexts (text self.old) (text self.new) }
+        ensures no_memory_unreadables { IsErrOf result OutStop.NoMemory
+            → (other : List ℕ) → unreadable self.new other ≡ unreadable self.old other }
         ensures no_memory_reads { IsErrOf result OutStop.NoMemory → SameCounts (read_faults self.old) (read_faults self.new) }
         ensures no_memory_writes { IsErrOf result OutStop.NoMemory
             → SameCounts (write_faults self.old) (write_faults self.new) };

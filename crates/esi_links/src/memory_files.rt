@@ -1,5 +1,5 @@
 //! Files in memory, of which chosen calls fail.
-ghost use Rattle.std.specs.Prelude.{◌≡◌, ◌<◌, ◌≤◌, ℕ, List, Option, None, Some, length, take, is_ok, is_none, false, IfOk, OnOk, OnErr, IfSome, IsSome, IsErrOf, ◌↔◌, true};
+ghost use Rattle.std.specs.Prelude.{◌≡◌, ◌≢◌, ◌<◌, ◌≤◌, ℕ, List, Option, None, Some, length, take, is_ok, is_none, false, IfOk, OnOk, OnErr, IfSome, IsSome, IsErrOf, ◌↔◌, true};
 ghost use Rattle.std.specs.Option.{option_copied};
 ghost use Rattle.esi_links.specs.Counts.{Later, HasCauseAt, SameCounts};
 ghost use Rattle.esi_links.specs.Texts.{PieceAt, SameTexts, SameElsewhere};
@@ -70,6 +70,8 @@ impl Files for MemoryFiles {
 
     ghost unreadable = { λ files name. is_none (memory_text files name) };
 
+    ghost log = { λ _. None };
+
     ghost read_faults = { memory_read_faults };
 
     ghost write_faults = { memory_write_faults };
@@ -120,9 +122,12 @@ impl Files for MemoryFiles {
         ensures told { IfSome (memory_text self.old name.now) (λ _. IsSome (memory_text self.new name.now)) }
         ensures quiet { OnOk result (SameCounts (memory_write_faults self.old) (memory_write_faults self.new)) }
         ensures elsewhere { SameElsewhere name.now (memory_text self.old) (memory_text self.new) }
+        ensures unreadables { (other : List ℕ) → other ≢ name.now → is_none (memory_text self.new other) ≡ is_none (memory_text self.old other) }
         ensures cause { HasCauseAt (memory_write_faults self.old) (memory_write_faults self.new) name.now result }
         ensures reads { Later (memory_read_faults self.old) (memory_read_faults self.new) }
         ensures no_memory_texts { IsErrOf result OutStop.NoMemory → SameTexts (memory_text self.old) (memory_text self.new) }
+        ensures no_memory_unreadables { IsErrOf result OutStop.NoMemory
+            → (other : List ℕ) → is_none (memory_text self.new other) ≡ is_none (memory_text self.old other) }
         ensures no_memory_reads { IsErrOf result OutStop.NoMemory → SameCounts (memory_read_faults self.old) (memory_read_faults self.new) }
         ensures no_memory_writes { IsErrOf result OutStop.NoMemory
             → SameCounts (memory_write_faults self.old) (memory_write_faults self.new) }

@@ -58,6 +58,8 @@ impl Files for SureFiles {
 
     ghost unreadable = { λ _ _. false };
 
+    ghost log = { λ _. None };
+
     ghost read_faults = { no_faults };
 
     ghost write_faults = { no_faults };

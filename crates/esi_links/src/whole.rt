@@ -2,6 +2,7 @@
 ghost use Rattle.std.specs.Prelude.{◌≡◌, ℕ, List, false, ◌≤◌, ◌<◌, ◌+◌, length, take, IfOk, OnOk, OnErr, IsTrue};
 ghost use Rattle.esi_links.specs.Counts.{Later, SameCounts, HasCause, HasCauseAt};
 ghost use Rattle.esi_links.specs.Growth.{Grows, GrowsByFront};
+ghost use Rattle.esi_links.specs.ReadLog.{NotesOne};
 ghost use Rattle.esi_links.specs.Texts.{FrontOf, ReadUpTo, SameTexts, ReadsOn};
 
 use crate::{Files, OutStop, Sink};
@@ -14,6 +15,7 @@ const PIECE: usize = 4096;
 /// Reads the text under a name whole, or its first `limit` + 1 octets where it is longer: so the
 /// caller sees whether a text is above the limit, which is at most 67,108,864. A fault comes
 /// only where the count of reads under this name rose.
+#[tactic(auto, using(crate::proofs::NotesJoined::one_more))]
 pub fn read_whole<F: Files>(
     alloc: Global,
     files: &mut F,
@@ -25,6 +27,8 @@ pub fn read_whole<F: Files>(
     ensures readable { OnOk result (F.unreadable files.old name.now ≡ false) }
     ensures texts { SameTexts (F.text files.old) (F.text files.new) }
     ensures unreadables { (other : List ℕ) → F.unreadable files.new other ≡ F.unreadable files.old other }
+    ensures log { NotesOne 0 (F.log files.old) (F.log files.new) name.now }
+    ensures log_some { OnOk result (NotesOne 1 (F.log files.old) (F.log files.new) name.now) }
     ensures quiet { OnOk result (SameCounts (F.read_faults files.old) (F.read_faults files.new)) }
     ensures cause { HasCauseAt (F.read_faults files.old) (F.read_faults files.new) name.now result }
     ensures writes { Later (F.write_faults files.old) (F.write_faults files.new) }
@@ -54,6 +58,8 @@ fn read_piece<F: Files>(
     ensures readable { OnOk result (F.unreadable files.old name.now ≡ false) }
     ensures texts { SameTexts (F.text files.old) (F.text files.new) }
     ensures unreadables { (other : List ℕ) → F.unreadable files.new other ≡ F.unreadable files.old other }
+    ensures log { NotesOne 0 (F.log files.old) (F.log files.new) name.now }
+    ensures log_some { OnOk result (NotesOne 1 (F.log files.old) (F.log files.new) name.now) }
     ensures quiet { OnOk result (SameCounts (F.read_faults files.old) (F.read_faults files.new)) }
     ensures cause { HasCauseAt (F.read_faults files.old) (F.read_faults files.new) name.now result }
     ensures writes { Later (F.write_faults files.old) (F.write_faults files.new) }

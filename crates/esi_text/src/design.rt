@@ -19,19 +19,23 @@ use std::alloc::Global;
 /// A number of the text, 0 to 2^128 - 1, and the place of its first octet.
 #[derive(Clone, Copy, Debug, PartialEq, Eq)]
 pub struct Number {
+    /// The number.
     pub value: u128,
+    /// Where its first octet stands.
     pub place: Place,
 }
 
 /// A pipe of stages, each of which holds octets.
 #[derive(Clone, Copy, Debug, PartialEq, Eq)]
 pub struct Pipe {
+    /// How many stages it has, as the text says.
     pub stages: Number,
 }
 
 /// A design text's syntax tree, as far as it is built: a pipe.
 #[derive(Clone, Copy, Debug, PartialEq, Eq)]
 pub struct Design {
+    /// The pipe that the text asks for.
     pub pipe: Pipe,
 }
 

@@ -1,6 +1,6 @@
 //! Octets in a small text (docs/small-texts.md, "Octets").
 ghost use Rattle.std.specs.Prelude.{◌≡◌, ◌/◌, ◌%◌, ◌∷◌, ◌++◌, ◌<◌, [], IfOk, IfSome, OnOk, OnErr};
-ghost use Rattle.small_text.specs.Hexadecimal.{hex_digit as hex_digit_lem, hex_of, hex_value as hex_value_lem, octet_of as octet_of_lem, octets_of};
+ghost use Rattle.small_text.specs.Hexadecimal.{hex_digit as digit_for, hex_of, hex_value as value_for, octet_of as octet_for, octets_of};
 
 use esi_base::{List, NoMemory, Octets};
 use std::alloc::Global;
@@ -48,14 +48,14 @@ pub fn push_hex(out: &mut Octets, octets: &[u8]) -> Result<(), NoMemory>
 
 /// The two digits of an octet.
 fn digits_of(octet: u8) -> [u8; 2]
-    ensures { result ≡ hex_digit_lem (octet / 16) ∷ hex_digit_lem (octet % 16) ∷ [] }
+    ensures { result ≡ digit_for (octet / 16) ∷ digit_for (octet % 16) ∷ [] }
 {
     [hex_digit(octet / 16), hex_digit(octet % 16)]
 }
 
 /// The octet that two digits stand for.
 fn octet_of(high: u8, low: u8) -> Option<u8>
-    ensures { result ≡ octet_of_lem (hex_value_lem high) (hex_value_lem low) }
+    ensures { result ≡ octet_for (value_for high) (value_for low) }
 {
     let high = hex_value(high)?;
     let low = hex_value(low)?;
@@ -64,7 +64,7 @@ fn octet_of(high: u8, low: u8) -> Option<u8>
 
 /// The number that a lower-case hexadecimal digit stands for.
 fn hex_value(digit: u8) -> Option<u8>
-    ensures value { result ≡ hex_value_lem digit }
+    ensures value { result ≡ value_for digit }
     ensures small { IfSome result (λ number. number < 16) }
 {
     match digit {
@@ -77,7 +77,7 @@ fn hex_value(digit: u8) -> Option<u8>
 /// The lower-case hexadecimal digit of a number.
 fn hex_digit(number: u8) -> u8
     requires { number < 16 }
-    ensures { result ≡ hex_digit_lem number }
+    ensures { result ≡ digit_for number }
 {
     if number < 10 {
         b'0' + number

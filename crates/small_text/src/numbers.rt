@@ -3,7 +3,7 @@ ghost use Rattle.std.specs.Prelude.{◌≡◌, ◌+◌, ◌*◌, ◌^◌, ◌<�
 ghost use Rattle.std.specs.Char.{digit_value, is_ascii_digit};
 ghost use Rattle.std.specs.List.{list_all};
 ghost use Rattle.std.specs.Option.{SomeIff};
-ghost use Rattle.small_text.specs.Numbers.{has_leading_zero as has_leading_zero_lem, is_decimal as is_decimal_lem, number_of};
+ghost use Rattle.small_text.specs.Numbers.{has_leading_zero as begins_with_zero, is_decimal as is_decimal_text, number_of};
 
 /// The number that a part stands for: decimal digits without sign or leading zeros, and at most the
 /// bound. None exactly where the part is no such number.
@@ -32,14 +32,14 @@ fn with_digit(number: u64, digit: u8) -> Option<u64>
 
 /// Whether a part is decimal digits without a leading zero.
 fn is_decimal(part: &[u8]) -> bool
-    ensures { result ≡ is_decimal_lem part.now }
+    ensures { result ≡ is_decimal_text part.now }
 {
     !part.is_empty() && !has_leading_zero(part) && all_digits(part)
 }
 
 /// Whether a part is more than one octet, of which the digit 0 is the first.
 fn has_leading_zero(part: &[u8]) -> bool
-    ensures { result ≡ has_leading_zero_lem part.now }
+    ensures { result ≡ begins_with_zero part.now }
 {
     part.len() > 1 && part[0] == b'0'
 }

@@ -1,7 +1,7 @@
 //! The lines of a small text that count, and their parts (docs/small-texts.md, "Lines and parts").
 ghost use Rattle.std.specs.Prelude.{◌≡◌, ◌+◌, ◌<◌, ◌≤◌, ◌==◌, ◌^◌, ◌∷◌, [], not, length, MatchOption, IfNone};
 ghost use Rattle.std.specs.List.{prefix_len};
-ghost use Rattle.small_text.specs.Lines.{lines, line_of as line_of_lem, counting_lines, place_of};
+ghost use Rattle.small_text.specs.Lines.{lines, line_of as counting_line, counting_lines, place_of};
 
 use esi_base::Place;
 use std::marker::Model;
@@ -201,7 +201,7 @@ fn cut_line(text: &[u8]) -> (&[u8], &[u8])
 /// A line, if it counts.
 fn line_of<'a>(text: &'a [u8], number: u32) -> Option<Line<'a>>
     requires { 1 + length text.now < 2 ^ 32 }
-    ensures { result ≡ line_of_lem number text.now }
+    ensures { result ≡ counting_line number text.now }
 {
     if text.first() == Some(&b'#') {
         return None;

@@ -1,5 +1,6 @@
 use Rattle.std.proofs.Common.{◌≡◌, ℕ, List, false, length, ◌+◌, ◌-◌, ◌<◌, ◌≤◌}
 use Rattle.esi_links.specs.Counts.{Later, SameCounts}
+use Rattle.esi_links.specs.ReadLog.{NotesOne}
 use Rattle.esi_links.specs.Texts.{FrontOf, SameTexts}
 use Rattle.esi_links.proofs.whole.read_whole.Given as goal
 
@@ -11,6 +12,8 @@ invariant-loop-piece g l = record {
   texts : SameTexts (g.F.Files.text l.fn.files) (g.F.Files.text l.files);
   readable : 0 < length l.octets → g.F.Files.unreadable l.fn.files l.name ≡ false;
   unreadables : (other : List ℕ) → g.F.Files.unreadable l.files other ≡ g.F.Files.unreadable l.fn.files other;
+  log : NotesOne 0 (g.F.Files.log l.fn.files) (g.F.Files.log l.files) l.name;
+  log_some : 0 < length l.octets → NotesOne 1 (g.F.Files.log l.fn.files) (g.F.Files.log l.files) l.name;
   quiet : SameCounts (g.F.Files.read_faults l.fn.files) (g.F.Files.read_faults l.files);
   reads : Later (g.F.Files.read_faults l.fn.files) (g.F.Files.read_faults l.files);
   writes : Later (g.F.Files.write_faults l.fn.files) (g.F.Files.write_faults l.files);
