@@ -1,7 +1,9 @@
-//! The type of a text.
+//! The type of a text: read at an offset, of a whole text, and by a cursor.
 ghost use Rattle.std.specs.Prelude.{◌≡◌, ◌≤◌, ◌<◌, ◌-◌, ◌^◌, length, IfOk};
 ghost use Rattle.esi_lex.specs.Tokens.{tokens};
-ghost use Rattle.design_tokens.specs.Grammar.{fault_of};
+ghost use Rattle.design_tokens.specs.Grammar.{fault_of, AnswersAt};
+ghost use Rattle.esi_base.specs.Reading.{Reads};
+ghost use Rattle.esi_lex.specs.Spellings.{AreSpelled};
 ghost use Rattle.channel_types.specs.Types.{IsGoodType};
 ghost use Rattle.channel_types.specs.Text.{text_of};
 ghost use Rattle.channel_types.specs.TypeGrammar.{Found};
@@ -26,6 +28,7 @@ fn place_in(text: &[u8], at: Option<usize>) -> Place
     requires { length text.now < 2 ^ 32 - 1 }
     ensures { result ≡ answers.place_in text.now at }
 {
+    // Offsets lie within the text; the least of both says so to the call.
     Place::at_offset(text, at.unwrap_or(text.len()).min(text.len()))
 }
 
@@ -40,13 +43,24 @@ fn refusal_at(text: &[u8], fault: Fault) -> Refusal
     }
 }
 
+/// Reads the type that comes next, and goes past it: the type, and the offset behind its last octet. It
+/// serves the readers of longer texts.
+pub fn next_type(cursor: &mut Cursor<'_>, alloc: Global) -> Result<(EsiType, usize), Halt>
+    ensures reads { AnswersAt (reading.type_at 16 cursor.old) result cursor.new }
+
+    // What is read is good, where the lexemes are those of a text.
+    ensures good { AreSpelled cursor.old → IfOk result (λ found. IsGoodType found.0) }
+{
+    type_at(cursor, alloc, MOST_OPEN)
+}
+
 /// The type that stands at an offset, and the offset behind it.
 fn found_at(alloc: Global, text: &[u8], at: usize) -> Result<(EsiType, usize), Halt>
     requires { at ≤ length text.now }
     ensures { Gives (reading.type_at 16 (tokens text.now at)) result }
 {
     let mut cursor = Cursor::from_offset(text, at);
-    type_at(&mut cursor, alloc, MOST_OPEN)
+    next_type(&mut cursor, alloc)
 }
 
 /// The type of a whole text, and the offset behind it.
@@ -54,7 +68,7 @@ fn whole(alloc: Global, text: &[u8]) -> Result<(EsiType, usize), Halt>
     ensures { Answers (whole_text text.now) result }
 {
     let mut cursor = Cursor::new(text);
-    let found = type_at(&mut cursor, alloc, MOST_OPEN)?;
+    let found = next_type(&mut cursor, alloc)?;
     if !cursor.is_at_end() {
         return Err(refuse(&cursor, Kind::Nothing));
     }
@@ -80,6 +94,9 @@ fn whole(alloc: Global, text: &[u8]) -> Result<(EsiType, usize), Halt>
 pub fn read_type(alloc: Global, text: &[u8], at: usize) -> Result<(EsiType, usize), Stop>
     requires within { at ≤ length text.now }
     requires small { length text.now ≤ 67108864 }
+    // The answer is what the text means there.
+    ensures reads { Reads (reading.type_from text.now at) result }
+
     // What is read stands there, and what stands there is read, unless memory runs out.
     ensures found { IfOk result (IsTypeAt text.now at) }
     ensures only { (found : Found) → IsTypeAt text.now at found → OkUnlessMemory found result }
@@ -101,6 +118,9 @@ pub fn read_type(alloc: Global, text: &[u8], at: usize) -> Result<(EsiType, usiz
 /// token behind the type. A text has at most 67,108,864 octets.
 pub fn parse_type(alloc: Global, text: &[u8]) -> Result<EsiType, Stop>
     requires { length text.now ≤ 67108864 }
+    // The answer is what the text means.
+    ensures reads { Reads (reading.type_of_text text.now) result }
+
     // What is read is the text's type, and each text of a type is read, unless memory runs out.
     ensures found { IfOk result (IsTypeText text.now) }
     ensures only { (ty : EsiType) → IsTypeText text.now ty → OkUnlessMemory ty result }

@@ -4,7 +4,7 @@ use Rattle.type_reader.specs.TypeMeaning.{text_found, text_refused, text_one, te
 use Rattle.type_reader.specs.GoodTypes.{text_good}
 use Rattle.channel_types.specs.PrintedTypes.{printed_is_type}
 use Rattle.channel_types.specs.TypeAnswers.{IsTypeText}
-use Rattle.type_reader.proofs.read.parse_type.Goals as goal
+use Rattle.type_reader.proofs.type_text.parse_type.Goals as goal
 
 pub returns-in-Ok-clause-found : goal.returns-in-Ok-clause-found
 returns-in-Ok-clause-found c = text_found c.args.text.now _ c.in-Ok.ensures

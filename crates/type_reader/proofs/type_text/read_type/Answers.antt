@@ -2,7 +2,7 @@ use Rattle.std.proofs.Common.{sym, subst}
 use Rattle.type_reader.specs.TypeMeaning.{at_found, at_refused, at_one, at_none, told_fails}
 use Rattle.channel_types.specs.TypeAnswers.{StopsToBeType}
 use Rattle.type_reader.specs.GoodTypes.{at_good}
-use Rattle.type_reader.proofs.read.read_type.Goals as goal
+use Rattle.type_reader.proofs.type_text.read_type.Goals as goal
 
 pub returns-in-Ok-clause-found : goal.returns-in-Ok-clause-found
 returns-in-Ok-clause-found c = at_found c.args.text.now c.args.at c.in-Ok.found c.in-Ok.ensures.0 c.in-Ok.ensures.1
