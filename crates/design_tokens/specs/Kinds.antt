@@ -149,9 +149,13 @@ kind_of End = Nothing
 abbrev pub is_reserved : ℕ → Bool
 is_reserved k = k == code TypeWord || nat_le (code Esi) k
 
--- a number, by its number
-abbrev pub is_number : ℕ → Bool
-is_number k = k == code One || k == code Small || k == code Great
+-- the kinds of numbers
+abbrev pub numbers : Kinds
+numbers = code One ∷ code Small ∷ code Great ∷ []
+
+-- what begins an item that is no pipe, by its number
+abbrev pub begins_item : ℕ → Bool
+begins_item k = k == code Bundle || k == code Service || k == code Module || k == code Top
 
 -- the kinds of counts
 abbrev pub counts : Kinds
@@ -163,13 +167,14 @@ are_names wanted = among wanted (code Name) && list_all (λ k. k == code Name ||
 
 -- The number of the refusal where only these kinds may stand: 206 at the end, a fault's own number, 207 for a keyword or
 -- a type word where only a name may stand, 209 for another number where only the version 1 may, 203 for a number above
--- 2^32 - 1 where only a count may, and 205 for all else.
+-- 2^32 - 1 where only a count may, 219 for what begins another item where a pipe may stand, and 205 for all else.
 unfoldable pub unwanted : Kinds → ℕ → ℕ
 unwanted wanted k =
     if are_names wanted && is_reserved k then 207
-    else (if among wanted (code One) && not (among wanted (code Small)) && is_number k then 209
+    else (if among wanted (code One) && not (among wanted (code Small)) && among numbers k then 209
     else (if among wanted (code Small) && not (among wanted (code Great)) && k == code Great then 203
-    else 205))
+    else (if among wanted (code Pipe) && begins_item k then 219
+    else 205)))
 
 abbrev pub refusal : Kinds → Token → ℕ
 refusal wanted End = 206
