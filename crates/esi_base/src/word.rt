@@ -5,6 +5,10 @@ ghost use Rattle.esi_base.specs.Parts.{part};
 
 use std::marker::Model;
 
+mod comparison;
+mod limbs;
+mod pieces;
+
 /// How many bits a limb has.
 const LIMB_BITS: u32 = 64;
 
