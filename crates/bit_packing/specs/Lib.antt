@@ -4,3 +4,7 @@ pub mod Voids
 pub mod MarkLemmas
 pub mod Coding
 pub mod PackingLaws
+pub mod OctetRules
+pub mod Equations
+pub mod Packings
+pub mod OctetLaws

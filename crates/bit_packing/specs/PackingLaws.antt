@@ -171,7 +171,7 @@ same_coding width width' marks marks' test test' pack pack' e f g h coding =
 -- a type is coded as its level is
 rolled : (level : EsiType-F EsiType Field)
     → IsCoding (width_step (folds.map-EsiType EsiType Field ℕ ℕ width_of field_width level)) (voids_step (folds.map-EsiType EsiType Field Marks Marks voids_of field_voids level))
-      (fits_step (folds.map-EsiType EsiType Field Test Test fits_of field_fits level)) (bits_step (folds.map-EsiType EsiType Field Pack Pack bits_of_value field_bits level))
+    (fits_step (folds.map-EsiType EsiType Field Test Test fits_of field_fits level)) (bits_step (folds.map-EsiType EsiType Field Pack Pack bits_of_value field_bits level))
     → IsCoded (roll-EsiType level)
 rolled level coding =
     same_coding _ _ _ _ _ _ _ _

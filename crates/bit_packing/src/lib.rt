@@ -2,7 +2,11 @@
 #![tactic(auto)]
 
 mod fitting;
+mod octets;
 mod value;
+mod voids;
 
 pub use fitting::fits;
+pub use octets::{Unpacked, from_octets, to_octets};
 pub use value::Value;
+pub use voids::is_packing;
