@@ -25,7 +25,6 @@ impl Word {
 }
 
 impl PartialEq for Word {
-    ghost use Rattle.std.specs.Bool.{beq};
     ghost use Rattle.std.specs.Cmp.{bool_eq_equiv, partial_equiv_from_equiv};
     ghost use Rattle.std.specs.Cmp.Lexicographic.{lists_equiv};
 
