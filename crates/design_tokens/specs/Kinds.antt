@@ -1,5 +1,5 @@
 -- The kinds of tokens that the grammar of the design text tells apart, and the refusal of a token that is not wanted.
-use Rattle.std.specs.Prelude.{ℕ, Bool, false, ◌==◌, ◌||◌, ◌&&◌, ◌^◌, not, nat_lt, nat_le, List, [], ◌∷◌, codes, if◌then◌else◌}
+use Rattle.std.specs.Prelude.{ℕ, Bool, ◌==◌, ◌||◌, ◌&&◌, ◌^◌, not, nat_lt, nat_le, List, [], ◌∷◌, codes, if◌then◌else◌}
 use Rattle.std.specs.List.{list_all}
 use Rattle.std.specs.Str.{bytes_eq}
 use Rattle.grammar_law.specs.Rule.{Kinds}
@@ -161,10 +161,9 @@ begins_item k = k == code Bundle || k == code Service || k == code Module || k =
 abbrev pub counts : Kinds
 counts = code One ∷ code Small ∷ []
 
--- only a name may stand there
+-- only a name may stand there; numbers that are no kind's say nothing
 abbrev pub are_names : Kinds → Bool
-are_names [] = false
-are_names (k ∷ ks) = list_all (λ j. j == code Name) (k ∷ ks)
+are_names wanted = among wanted (code Name) && list_all (λ k. k == code Name || nat_lt (code Union) k) wanted
 
 -- The number of the refusal where only these kinds may stand: 206 at the end, a fault's own number, 207 for a keyword or
 -- a type word where only a name may stand, 209 for another number where only the version 1 may, 203 for a number above

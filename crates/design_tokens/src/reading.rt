@@ -15,14 +15,18 @@ use std::alloc::{AllocError, Global};
 /// A refusal's number, and the offset of the first octet of the token that is refused; None at the end.
 #[derive(Clone, Copy, Debug, PartialEq, Eq)]
 pub struct Fault {
+    /// The number of the rule that the text breaks.
     pub number: u16,
+    /// The offset of the refused token's first octet.
     pub at: Option<usize>,
 }
 
 /// Why a reader stops: a token is refused, or memory could not be had.
 #[derive(Clone, Copy, Debug, PartialEq, Eq)]
 pub enum Halt {
+    /// A token is refused.
     Refused(Fault),
+    /// Memory could not be had.
     NoMemory,
 }
 
@@ -42,7 +46,8 @@ impl From<AllocError> for Halt {
     }
 }
 
-/// The number of the refusal of a token where only one of this kind may stand, which is no count.
+/// The number of the refusal of a token where only one of this kind may stand; `Small` stands for
+/// every count.
 #[tactic(auto, unfolding(crate::specs::Kinds::unwanted))]
 fn number_of_refusal(wanted: Kind, token: &Token<'_>) -> u16
     ensures { result ≡ kinds.refusal (kinds.code wanted ∷ []) token.now }

@@ -1,5 +1,7 @@
 -- Words as lists of bits, the least significant bit first.
 use Rattle.std.specs.Prelude.{◌≡◌, ℕ, zero, suc, ◌+◌, ◌-◌, ◌*◌, ◌/◌, ◌%◌, ◌^◌, ◌<◌, ◌==◌, if◌then◌else◌, Bool, false, List, [], ◌∷◌, length, replicate, slice_get, Some, refl}
+use Rattle.std.specs.Cmp.Lexicographic.{pointwise}
+use Rattle.std.specs.Bool.{beq}
 use Rattle.std.proofs.Common.{sym, ◌∙◌, ap, arith}
 use Rattle.std.proofs.lemmas.Nat.{shr-shr, mod-pow-add}
 use Rattle.esi_base.specs.Parts.{field_in_part}
@@ -11,6 +13,16 @@ bit_value b = if b then 1 else 0
 abbrev pub number_of : List Bool → ℕ
 number_of [] = 0
 number_of (b ∷ bs) = bit_value b + 2 * number_of bs
+
+-- bit by bit, as far as both lists go
+abbrev pub zip_bits : (Bool → Bool → Bool) → List Bool → List Bool → List Bool
+zip_bits f [] bs = []
+zip_bits f (a ∷ as') [] = []
+zip_bits f (a ∷ as') (b ∷ bs) = f a b ∷ zip_bits f as' bs
+
+-- the test that two lists of bits are the same
+abbrev pub same_bits : List Bool → List Bool → Bool
+same_bits = pointwise beq
 
 -- the lowest bits of a number, as many as the width says
 abbrev pub bits_of : ℕ → ℕ → List Bool

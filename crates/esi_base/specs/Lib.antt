@@ -1,4 +1,6 @@
+pub mod BitLists
 pub mod Bits
+pub mod Limbs
 pub mod Octets
 pub mod Parts
 pub mod Places

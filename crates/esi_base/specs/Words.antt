@@ -1,13 +1,9 @@
 -- How a word's limbs and width are its bits.
-use Rattle.std.specs.Prelude.{◌≡◌, ℕ, ◌≤◌, ◌<◌, ◌^◌, Bool, List, length}
-use Rattle.esi_base.specs.Parts.{whole, parts, AreSmall}
+use Rattle.std.specs.Prelude.{◌≤◌, ◌<◌, ◌^◌, Bool, List, length}
+use Rattle.esi_base.specs.Parts.{whole, parts}
 use Rattle.esi_base.specs.Bits.{number_of, bits_of}
+use Rattle.esi_base.specs.Limbs.{IsLimbs}
 use Rattle.esi_base.specs.declared.word.Word.TheInside.{Inside}
-
--- sixteen limbs of 64 bits
-pub record IsLimbs (limbs : List ℕ) : Type 0 where
-  pub count : length limbs ≡ 16
-  pub small : AreSmall 64 limbs
 
 -- the bits of the limbs, as many as the width says
 abbrev pub bits_in : Inside → List Bool

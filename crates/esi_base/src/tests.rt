@@ -1,5 +1,7 @@
 //! What no clause says: that each call succeeds with ample memory, and a few answers that were worked
 //! out by hand.
+ghost use Rattle.std.specs.Prelude.{◌≡◌, length};
+
 use super::*;
 use std::process::Abort;
 use std::test::Fail;
@@ -106,6 +108,152 @@ fn octets_stand_at_their_places_across_limbs(rt: HostRuntime) {
     assert!(rt; ones.bit(127));
     let nine = Word::from_u128(9, 0x1a5);
     assert_eq!(rt; (nine.octet(0), nine.octet(1), nine.octet(2)), (0xa5, 1, 0));
+}
+
+/// The word of 1,024 bits whose octets count from 0 up to 127.
+fn counting_word() -> Word
+    ensures { length result ≡ 1024 }
+{
+    let mut octets = [0; 128];
+    for at in 0..128 {
+        octets[at as usize] = at;
+    }
+    Word::from_octets(1024, &octets)
+}
+
+#[test]
+fn octets_make_words(rt: HostRuntime) {
+    assert_eq!(rt; Word::from_octets(1, &[1]), Word::from_u128(1, 1));
+    assert_eq!(rt; Word::from_octets(9, &[8, 1]), Word::from_u128(9, 0x108));
+    let limb = Word::from_octets(64, &[8, 7, 6, 5, 4, 3, 2, 1]);
+    assert_eq!(rt; limb, Word::from_u128(64, 0x0102_0304_0506_0708));
+    let past = Word::from_octets(65, &[8, 7, 6, 5, 4, 3, 2, 1, 1]);
+    assert_eq!(rt; past, Word::from_u128(65, 0x1_0102_0304_0506_0708));
+    let wide = counting_word();
+    for at in 0..128 {
+        assert_eq!(rt; u32::from(wide.octet(at)), at, "at {at}");
+    }
+}
+
+#[test]
+fn words_of_two_widths_differ(rt: HostRuntime) {
+    assert!(rt; Word::zero(64) == Word::from_u128(64, 0));
+    assert!(rt; Word::zero(64) != Word::zero(65));
+    assert!(rt; Word::zero(65) != Word::from_u128(65, 1 << 64));
+}
+
+#[test]
+fn slices_cross_the_edges_of_limbs(rt: HostRuntime) {
+    let word = Word::from_u128(128, 0x0123_4567_89ab_cdef_0011_2233_4455_6677);
+    assert_eq!(rt; word.slice(127, 0), word);
+    assert_eq!(rt; word.slice(67, 60), Word::from_u128(8, 0xf0));
+    assert_eq!(rt; word.slice(71, 56), Word::from_u128(16, 0xef00));
+    assert_eq!(rt;
+        word.slice(63, 0),
+        Word::from_u128(64, 0x0011_2233_4455_6677)
+    );
+    assert_eq!(rt; word.slice(124, 124), Word::from_u128(1, 0));
+    assert_eq!(rt; word.slice(120, 120), Word::from_u128(1, 1));
+    let wide = counting_word();
+    assert_eq!(rt; wide.slice(1023, 1016), Word::from_u128(8, 127));
+    assert_eq!(rt; wide.slice(1020, 1012), Word::from_u128(9, 0x1f7));
+    assert_eq!(rt; wide.slice(131, 124), Word::from_u128(8, 0x00));
+    assert_eq!(rt; wide.slice(139, 124), Word::from_u128(16, 0x1100));
+}
+
+#[test]
+fn joined_words_are_cut_apart_again(rt: HostRuntime) {
+    assert_eq!(rt;
+        Word::from_u128(8, 3).concat(&Word::from_u128(8, 5)),
+        Word::from_u128(16, 0x0305)
+    );
+    let high = Word::from_u128(63, 0x4000_0000_0000_0001);
+    let low = Word::from_u128(65, 0x1_8000_0000_0000_0003);
+    let both = high.concat(&low);
+    assert_eq!(rt;
+        both,
+        Word::from_u128(128, 0x8000_0000_0000_0003_8000_0000_0000_0003)
+    );
+    assert_eq!(rt; both.slice(64, 0), low);
+    assert_eq!(rt; both.slice(127, 65), high);
+    let wide = counting_word();
+    assert_eq!(rt; wide.slice(1023, 129).concat(&wide.slice(128, 0)), wide);
+}
+
+#[test]
+fn words_are_taken_bit_by_bit(rt: HostRuntime) {
+    let first = Word::from_u128(128, 0xff00_0000_0000_0000_0ff0);
+    let second = Word::from_u128(128, 0x0ff0_0000_0000_0000_00ff);
+    assert_eq!(rt;
+        first.bit_and(&second),
+        Word::from_u128(128, 0x0f00_0000_0000_0000_00f0)
+    );
+    assert_eq!(rt;
+        first.bit_or(&second),
+        Word::from_u128(128, 0xfff0_0000_0000_0000_0fff)
+    );
+    assert_eq!(rt;
+        first.bit_xor(&second),
+        Word::from_u128(128, 0xf0f0_0000_0000_0000_0f0f)
+    );
+    assert_eq!(rt;
+        Word::from_u128(9, 0x1a5).bit_not(),
+        Word::from_u128(9, 0x5a)
+    );
+    assert_eq!(rt;
+        Word::zero(65).bit_not(),
+        Word::from_u128(65, 0x1_ffff_ffff_ffff_ffff)
+    );
+    let ones = Word::zero(1024).bit_not();
+    assert_eq!(rt;
+        (ones.octet(0), ones.octet(64), ones.octet(127)),
+        (255, 255, 255)
+    );
+    assert_eq!(rt; ones.bit_not(), Word::zero(1024));
+}
+
+#[test]
+fn words_are_compared_and_chosen(rt: HostRuntime) {
+    let yes = Word::from_u128(1, 1);
+    let no = Word::zero(1);
+    let first = Word::from_u128(65, 1 << 64);
+    assert_eq!(rt; first.equal(&Word::from_u128(65, 1 << 64)), yes);
+    assert_eq!(rt; first.equal(&Word::zero(65)), no);
+    assert_eq!(rt; yes.choose(&first, &Word::zero(65)), first);
+    assert_eq!(rt; no.choose(&first, &Word::zero(65)), Word::zero(65));
+    assert_eq!(rt; Word::from_u128(9, 7).less(&Word::from_u128(9, 8)), yes);
+    assert_eq!(rt; Word::from_u128(9, 8).less(&Word::from_u128(9, 8)), no);
+    let most = Word::from_u128(64, 0xffff_ffff_ffff_ffff);
+    assert_eq!(rt; Word::zero(64).less(&most), yes);
+    assert_eq!(rt; most.less(&Word::zero(64)), no);
+}
+
+#[test]
+fn sums_and_differences_stay_within_the_width(rt: HostRuntime) {
+    let one = Word::from_u128(1, 1);
+    assert_eq!(rt; one.plus(&one), Word::zero(1));
+    assert_eq!(rt; Word::zero(1).minus(&one), one);
+    let nine = Word::from_u128(9, 0x1ff);
+    assert_eq!(rt; nine.plus(&Word::from_u128(9, 1)), Word::zero(9));
+    assert_eq!(rt;
+        Word::from_u128(9, 0x100).plus(&Word::from_u128(9, 0xff)),
+        nine
+    );
+    assert_eq!(rt; Word::zero(9).minus(&Word::from_u128(9, 1)), nine);
+    assert_eq!(rt;
+        Word::from_u128(9, 3).minus(&Word::from_u128(9, 5)),
+        Word::from_u128(9, 0x1fe)
+    );
+    let most = Word::from_u128(64, 0xffff_ffff_ffff_ffff);
+    assert_eq!(rt;
+        most.plus(&most),
+        Word::from_u128(64, 0xffff_ffff_ffff_fffe)
+    );
+    assert_eq!(rt; Word::zero(64).minus(&most), Word::from_u128(64, 1));
+    assert_eq!(rt;
+        most.minus(&Word::from_u128(64, 0xffff_ffff_ffff_fff0)),
+        Word::from_u128(64, 15)
+    );
 }
 
 #[test]

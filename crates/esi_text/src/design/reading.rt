@@ -8,17 +8,14 @@ use design_tokens::reading::{expect, number};
 use design_tokens::{Halt, Kind};
 use esi_lex::Cursor;
 use std::alloc::Global;
-use type_reader::reading::type_at;
-
-/// How many types may be open at a place of a text.
-const MOST_OPEN: u32 = 16;
+use type_reader::next_type;
 
 /// What stands behind `pipe`: the type, and the count of stages with the offset of its first octet.
 #[tactic(auto, unfolding(crate::specs::DesignReading::pipe))]
 fn pipe(cursor: &mut Cursor<'_>, alloc: Global) -> Result<(EsiType, (u128, usize)), Halt>
     ensures { AnswersAt (spec.pipe (types.type_at 16) cursor.old) result cursor.new }
 {
-    let (ty, _) = type_at(cursor, alloc, MOST_OPEN)?;
+    let (ty, _) = next_type(cursor, alloc)?;
     expect(cursor, Kind::Stages)?;
     let stages = number(cursor)?;
     expect(cursor, Kind::Semicolon)?;

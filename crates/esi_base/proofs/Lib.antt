@@ -1,0 +1,5 @@
+mod Filling
+mod Made
+mod OctetLimbs
+mod SameWords
+mod Shifts
