@@ -1,0 +1,2 @@
+pub mod VoidWalk
+pub mod OctetWalk

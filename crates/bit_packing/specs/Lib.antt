@@ -1,0 +1,10 @@
+pub mod Fitting
+pub mod Packing
+pub mod Voids
+pub mod MarkLemmas
+pub mod Coding
+pub mod PackingLaws
+pub mod OctetRules
+pub mod Equations
+pub mod Packings
+pub mod OctetLaws

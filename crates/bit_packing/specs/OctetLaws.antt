@@ -1,0 +1,71 @@
+-- The octets of a packing are those that are judged to be, and of no other word.
+use Rattle.std.proofs.Common.{◌≡◌, ℕ, zero, suc, ◌+◌, ◌-◌, ◌*◌, ◌/◌, ◌%◌, ◌^◌, ◌<◌, ◌≤◌, ◌==◌, ◌↔◌, Bool, true, false, if◌then◌else◌, Result, Ok, Err, nat_lt, List, [], ◌∷◌, ◌++◌, length, take, drop, refl, sym, ap, ◌∙◌, subst, arith}
+use Rattle.std.proofs.lemmas.Bool.{eqb-true, eq-eqb, lt-ltb, ltb-true}
+use Rattle.std.proofs.Math.Nat.{mod-eq_of_lt}
+use Rattle.std.proofs.Math.Pow.{pow_mono}
+use Rattle.esi_base.specs.Bits.{number_of, bits_of, length-bits_of, number_of-bits_of}
+use Rattle.esi_base.specs.BitLists.{number_of-below, bits_of-number_of}
+use Rattle.esi_base.specs.Octets.{octet_count, octets_of}
+use Rattle.esi_base.specs.Parts.{whole, parts, AreSmall, parts-whole, whole-parts, length-parts}
+use Rattle.channel_types.specs.Types.{width_of}
+use Rattle.channel_types.specs.declared.esi_type.EsiType.{EsiType}
+use Rattle.bit_packing.specs.declared.octets.Unpacked.{Unpacked}
+use Rattle.bit_packing.specs.declared.octets.Unpacked.TheVariants.{Count, Spare, VoidBit}
+use Rattle.bit_packing.specs.Packing.{IsPacking}
+use Rattle.bit_packing.specs.Packings.{packing_width, packing_clear, made_packing}
+use Rattle.bit_packing.specs.Voids.{voids_of, has_marked_one}
+use Rattle.bit_packing.specs.OctetRules.{octets_for, bits_from, judged}
+
+-- the octets of a word are its number again
+whole-octets_of : (word : List Bool) → whole 8 (octets_of word) ≡ number_of word
+whole-octets_of word =
+    whole-parts 8 (octet_count word) (number_of word)
+    ∙ mod-eq_of_lt (let e : number_of word < 2 ^ length word = number_of-below word in
+    let g : 2 ^ length word ≤ 2 ^ (8 * octet_count word) = pow_mono {i = length word} {j = 8 * octet_count word} (omega arith) in
+    omega arith)
+
+-- octets that fit a width are those of the word that has their bits
+octets_of-bits_of : (octets : List ℕ) (width : ℕ) → AreSmall 8 octets → length octets ≡ (width + 7) / 8 → whole 8 octets < 2 ^ width → octets_of (bits_of width (whole 8 octets)) ≡ octets
+octets_of-bits_of octets width small count fits =
+    ap (λ n. parts 8 ((n + 7) / 8) (number_of (bits_of width (whole 8 octets)))) (length-bits_of width (whole 8 octets))
+    ∙ ap (λ n. parts 8 ((width + 7) / 8) n) (number_of-bits_of width (whole 8 octets) ∙ mod-eq_of_lt fits)
+    ∙ ap (λ k. parts 8 k (whole 8 octets)) (sym count)
+    ∙ parts-whole 8 octets small
+
+-- what is judged to be a packing is one, and these are its octets
+judged_packing : (octets : List ℕ) (ty : EsiType) (word : List Bool) → AreSmall 8 octets → judged octets ty ≡ Ok word → IsPacking word ty × (octets_of word ≡ octets)
+judged_packing octets ty word small e = of (length octets == octets_for ty) (nat_lt (whole 8 octets) (2 ^ width_of ty)) (has_marked_one (voids_of ty) (bits_from octets ty)) refl refl refl e
+  where
+    of : (count fits set : Bool) → (length octets == octets_for ty) ≡ count → nat_lt (whole 8 octets) (2 ^ width_of ty) ≡ fits → has_marked_one (voids_of ty) (bits_from octets ty) ≡ set
+        → (if count then (if fits then (if set then Err VoidBit else Ok (bits_from octets ty)) else Err Spare) else Err Count) ≡ Ok word → IsPacking word ty × (octets_of word ≡ octets)
+    of false fits set c f s e = absurd (cc)
+    of true false set c f s e = absurd (cc)
+    of true true true c f s e = absurd (cc)
+    of true true false c f s e =
+        let same : bits_from octets ty ≡ word = cc in (
+          subst (λ w. IsPacking w ty) same (made_packing (bits_from octets ty) ty (length-bits_of (width_of ty) (whole 8 octets)) s),
+          ap octets_of (sym same) ∙ octets_of-bits_of octets (width_of ty) small (eqb-true (length octets) (octets_for ty) c) (ltb-true (whole 8 octets) (2 ^ width_of ty) f),
+        )
+
+-- the octets of a packing are judged to be its octets
+packing_judged : (octets : List ℕ) (ty : EsiType) (word : List Bool) → IsPacking word ty → octets_of word ≡ octets → judged octets ty ≡ Ok word
+packing_judged octets ty word packing e =
+    let width = packing_width word ty packing in
+    let number : whole 8 octets ≡ number_of word = ap (whole 8) (sym e) ∙ whole-octets_of word in
+    let count : length octets ≡ octets_for ty = ap length (sym e) ∙ length-parts 8 (octet_count word) (number_of word) ∙ ap (λ n. (n + 7) / 8) width in
+    let below = number_of-below word in
+    let fits : whole 8 octets < 2 ^ width_of ty = subst (λ k. whole 8 octets < 2 ^ k) width (subst (λ n. n < 2 ^ length word) (sym number) below) in
+    let bits : bits_from octets ty ≡ word = ap (λ n. bits_of (width_of ty) n) number ∙ ap (λ k. bits_of k (number_of word)) (sym width) ∙ bits_of-number_of word in
+    of (length octets == octets_for ty) (nat_lt (whole 8 octets) (2 ^ width_of ty)) (has_marked_one (voids_of ty) (bits_from octets ty))
+    (eq-eqb (length octets) (octets_for ty) count) (lt-ltb (whole 8 octets) (2 ^ width_of ty) fits) (ap (has_marked_one (voids_of ty)) bits ∙ packing_clear word ty packing) bits
+  where
+    of : (count fits set : Bool) → count ≡ true → fits ≡ true → set ≡ false → bits_from octets ty ≡ word
+        → (if count then (if fits then (if set then Err VoidBit else Ok (bits_from octets ty)) else Err Spare) else Err Count) ≡ Ok word
+    of true true false c f s e = ap Ok e
+    of false fits set c f s e = absurd (cc)
+    of true false set c f s e = absurd (cc)
+    of true true true c f s e = absurd (cc)
+
+-- octets give a word exactly where it is a packing and they are its octets
+pub judged_Ok : (octets : List ℕ) (ty : EsiType) (word : List Bool) → AreSmall 8 octets → (judged octets ty ≡ Ok word) ↔ (IsPacking word ty × (octets_of word ≡ octets))
+judged_Ok octets ty word small = (judged_packing octets ty word small, λ h. packing_judged octets ty word h.0 h.1)
