@@ -28,15 +28,16 @@ pub use tree::{Design, Number, Pipe};
 /// The longest text, in octets.
 const LONGEST_TEXT: usize = 1_048_576;
 
-// The place of an offset, or of the text's end.
+/// The place of an offset, or of the text's end.
 fn place_in(text: &[u8], at: Option<usize>) -> Place
     requires { length text.now < 2 ^ 32 - 1 }
     ensures { result ≡ answers.place_in text.now at }
 {
+    // Offsets lie within the text; the least of both says so to the call.
     Place::at_offset(text, at.unwrap_or(text.len()).min(text.len()))
 }
 
-// A fault, told by line and column.
+/// A fault, told by line and column.
 fn refusal_at(text: &[u8], fault: Fault) -> Refusal
     requires { length text.now < 2 ^ 32 - 1 }
     ensures { result ≡ answers.refusal_at text.now (fault_of fault) }
@@ -47,7 +48,7 @@ fn refusal_at(text: &[u8], fault: Fault) -> Refusal
     }
 }
 
-// The design of a whole text: the type, and the count of stages with the offset of its first octet.
+/// The design of a whole text: the type, and the count of stages with the offset of its first octet.
 fn whole_text(alloc: Global, text: &[u8]) -> Result<(EsiType, (u128, usize)), Halt>
     ensures { Answers (reading.whole_text text.now) result }
 {
@@ -59,6 +60,7 @@ fn whole_text(alloc: Global, text: &[u8]) -> Result<(EsiType, (u128, usize)), Ha
     Ok(parsed)
 }
 
+/// Reads a design text: the answer says what the text means.
 #[tactic(auto, unfolding(crate::specs::DesignPlaces::design_of))]
 fn read(alloc: Global, text: &[u8]) -> Result<Design, Stop>
     ensures { Reads (places.design_of text.now) (said result) }
