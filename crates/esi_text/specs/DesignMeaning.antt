@@ -123,67 +123,67 @@ same_design : (a b : Design) → meaning_of a ≡ meaning_of b → a ≡ b
 same_design a b e = ap (λ (p : Pipe). record { pipe = p }) (same_pipe a.pipe b.pipe (ap (λ m. m.ty) e) (ap (λ m. m.stages) e))
 
 -- what the lexemes tell
-told_found : (text : List ℕ) (design : Design) (read : Result Parsed Fault) → whole_text text ≡ read → told_at text read ≡ Ok (meaning_of design) → IsDesignText text design
-told_found text design (Ok parsed) e f =
+told_found : (text : List ℕ) (answer : Design) (read : Result Parsed Fault) → whole_text text ≡ read → told_at text read ≡ Ok (meaning_of answer) → IsDesignText text answer
+told_found text answer (Ok parsed) e f =
     let o = all_found text parsed e in
-    record { tree = o.tree; is_text = o.text; says = sym (ok_is (meaning_at text parsed) (meaning_of design) f) ∙ ap (meaning_at text) o.is }
-told_found text design (Err fault) e f = absurd (not_both (meaning_of design) (refusal_at text fault) (sym f))
+    record { tree = o.tree; is_text = o.text; says = sym (ok_is (meaning_at text parsed) (meaning_of answer) f) ∙ ap (meaning_at text) o.is }
+told_found text answer (Err fault) e f = absurd (not_both (meaning_of answer) (refusal_at text fault) (sym f))
 
 told_refused : (text : List ℕ) (refusal : Refusal) (read : Result Parsed Fault) → whole_text text ≡ read → told_at text read ≡ Err refusal → StopsToBeDesign text refusal
 told_refused text refusal (Ok parsed) e f = absurd (not_both (meaning_at text parsed) refusal f)
 told_refused text refusal (Err fault) e f = subst (λ z. StopsToBeDesign text z) (err_is (refusal_at text fault) refusal f) (all_refused text fault e)
 
-told_only : (text : List ℕ) (design : Design) → IsDesignText text design → told_at text (whole_text text) ≡ Ok (meaning_of design)
-told_only text design d =
+told_only : (text : List ℕ) (answer : Design) → IsDesignText text answer → told_at text (whole_text text) ≡ Ok (meaning_of answer)
+told_only text answer d =
     ap (told_at text) (all_only text (design_in (type_of 16) d.tree) (record { tree = d.tree; text = d.is_text; is = refl }))
     ∙ ap (λ (x : Meaning). Ok x) (sym d.says)
 
-told_good : (text : List ℕ) (design : Design) (read : Result Parsed Fault) → whole_text text ≡ read → told_at text read ≡ Ok (meaning_of design) → IsGoodType design.pipe.ty
-told_good text design (Ok parsed) e f = subst IsGoodType (ap (λ m. m.ty) (ok_is (meaning_at text parsed) (meaning_of design) f)) (parsed_good text parsed e)
-told_good text design (Err fault) e f = absurd (not_both (meaning_of design) (refusal_at text fault) (sym f))
+told_good : (text : List ℕ) (answer : Design) (read : Result Parsed Fault) → whole_text text ≡ read → told_at text read ≡ Ok (meaning_of answer) → IsGoodType answer.pipe.ty
+told_good text answer (Ok parsed) e f = subst IsGoodType (ap (λ m. m.ty) (ok_is (meaning_at text parsed) (meaning_of answer) f)) (parsed_good text parsed e)
+told_good text answer (Err fault) e f = absurd (not_both (meaning_of answer) (refusal_at text fault) (sym f))
 
 -- ---- the clauses of the reader
 
 -- what is read is a text of the grammar
 pub found_of : (text : List ℕ) (result : Result Design Stop) → Reads (design_of text) (said result) → IfOk result (IsDesignText text)
-found_of text (Ok design) r =
+found_of text (Ok answer) r =
     elim (cases_lt longest_text (length text)) [
-      | inl h ↦ absurd (not_both (meaning_of design) too_long (sym r ∙ long text h))
-      | inr h ↦ told_found text design (whole_text text) refl (sym (short text h) ∙ r)
+      | inl h ↦ absurd (not_both (meaning_of answer) too_long (sym r ∙ long text h))
+      | inr h ↦ told_found text answer (whole_text text) refl (sym (short text h) ∙ r)
     ]
 found_of text (Err stop) r = tt
 
 -- each text of the grammar that is not too long is read
-pub only_of : (text : List ℕ) (result : Result Design Stop) (design : Design) → Reads (design_of text) (said result) → length text ≤ longest_text → IsDesignText text design
-    → OkUnlessMemory design result
-only_of text (Ok other) design r h d = same_design other design (ok_is (meaning_of other) (meaning_of design) (sym r ∙ (short text h ∙ told_only text design d)))
-only_of text (Err (Refused refusal)) design r h d = not_both (meaning_of design) refusal (sym (short text h ∙ told_only text design d) ∙ r)
-only_of text (Err NoMemory) design r h d = tt
+pub only_of : (text : List ℕ) (result : Result Design Stop) (answer : Design) → Reads (design_of text) (said result) → length text ≤ longest_text → IsDesignText text answer
+    → OkUnlessMemory answer result
+only_of text (Ok other) answer r h d = same_design other answer (ok_is (meaning_of other) (meaning_of answer) (sym r ∙ (short text h ∙ told_only text answer d)))
+only_of text (Err (Refused refusal)) answer r h d = not_both (meaning_of answer) refusal (sym (short text h ∙ told_only text answer d) ∙ r)
+only_of text (Err NoMemory) answer r h d = tt
 
 -- a text that is not too long is refused where it stops to be one of the grammar
 pub refused_of : (text : List ℕ) (result : Result Design Stop) → Reads (design_of text) (said result) → length text ≤ longest_text → IfRefused result (StopsToBeDesign text)
-refused_of text (Ok design) r h = tt
+refused_of text (Ok answer) r h = tt
 refused_of text (Err (Refused refusal)) r h = told_refused text refusal (whole_text text) refl (sym (short text h) ∙ r)
 refused_of text (Err NoMemory) r h = tt
 
 -- what is read has a good type
-pub good_of : (text : List ℕ) (result : Result Design Stop) → Reads (design_of text) (said result) → IfOk result (λ design. IsGoodType design.pipe.ty)
-good_of text (Ok design) r =
+pub good_of : (text : List ℕ) (result : Result Design Stop) → Reads (design_of text) (said result) → IfOk result (λ answer. IsGoodType answer.pipe.ty)
+good_of text (Ok answer) r =
     elim (cases_lt longest_text (length text)) [
-      | inl h ↦ absurd (not_both (meaning_of design) too_long (sym r ∙ long text h))
-      | inr h ↦ told_good text design (whole_text text) refl (sym (short text h) ∙ r)
+      | inl h ↦ absurd (not_both (meaning_of answer) too_long (sym r ∙ long text h))
+      | inr h ↦ told_good text answer (whole_text text) refl (sym (short text h) ∙ r)
     ]
 good_of text (Err stop) r = tt
 
 -- a text that is too long is refused for that
 pub too_long_of : (text : List ℕ) (result : Result Design Stop) → Reads (design_of text) (said result) → longest_text < length text → RefusedUnlessMemory too_long result
-too_long_of text (Ok design) r h = not_both (meaning_of design) too_long (sym r ∙ long text h)
+too_long_of text (Ok answer) r h = not_both (meaning_of answer) too_long (sym r ∙ long text h)
 too_long_of text (Err (Refused refusal)) r h = err_is refusal too_long (sym r ∙ long text h)
 too_long_of text (Err NoMemory) r h = tt
 
 -- the number 210 tells that the text is too long, and nothing else
 pub length_of : (text : List ℕ) (result : Result Design Stop) → Reads (design_of text) (said result) → IfRefused result (λ refusal. (refusal.number ≡ 210) ↔ (longest_text < length text))
-length_of text (Ok design) r = tt
+length_of text (Ok answer) r = tt
 length_of text (Err (Refused refusal)) r = (
   (λ e. elim (cases_lt longest_text (length text)) [
     | inl h ↦ h
