@@ -1,2 +1,3 @@
 pub mod VoidWalk
 pub mod OctetWalk
+pub mod Laying
