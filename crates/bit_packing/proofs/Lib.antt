@@ -1,2 +1,4 @@
 pub mod VoidWalk
 pub mod OctetWalk
+pub mod Laying
+pub mod Taking

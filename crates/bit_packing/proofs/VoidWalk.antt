@@ -78,7 +78,7 @@ module _ (word : List Bool) (fields : List Field) (end i at width : ℕ) (f : Fi
       let next = ap (sum_by field_width) (next_field fields i f l e) ∙ sum_by-cons field_width f (drop (i + 1) fields) in
       omega (arith, h.room, next, width-field f)
 
-  walked_left : IsWalked word fields end i at → (fields_set word (drop (i + 1) fields) (at - width) || has_marked_one (voids_of f.ty) (drop (at - width) word)) ≡ fields_set word fields end
+  pub walked_left : IsWalked word fields end i at → (fields_set word (drop (i + 1) fields) (at - width) || has_marked_one (voids_of f.ty) (drop (at - width) word)) ≡ fields_set word fields end
   walked_left h =
       let room = walked_room h in
       sym (fields_set-cons word f (drop (i + 1) fields) (at - width) (omega arith))
@@ -134,7 +134,7 @@ module _ (word : List Bool) (item : EsiType) (count start i at width : ℕ) (l :
       let g : (i + 1 + rest) * width_of item ≡ i * width_of item + width_of item + rest * width_of item = grind arith in
       omega (arith, h.place, g, ap (λ k. k * width_of item) e)
 
-  items_left : AreWalked word item count start i at → (has_marked_one (voids_of item) (drop at word) || items_set word item (count - (i + 1)) (at + width)) ≡ items_set word item count start
+  pub items_left : AreWalked word item count start i at → (has_marked_one (voids_of item) (drop at word) || items_set word item (count - (i + 1)) (at + width)) ≡ items_set word item count start
   items_left h =
       ap (λ k. has_marked_one (voids_of item) (drop at word) || items_set word item (count - (i + 1)) (at + k)) w
       ∙ sym (items_set-suc word item (count - (i + 1)) at)

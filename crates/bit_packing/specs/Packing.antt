@@ -1,5 +1,6 @@
 -- Packing: the bits of a value of a type, the least significant bit first.
-use Rattle.std.specs.Prelude.{◌≡◌, ℕ, Bool, true, false, List, [], ◌∷◌, ◌++◌}
+use Rattle.std.specs.Prelude.{◌≡◌, ℕ, Bool, true, false, List, [], ◌∷◌, ◌++◌, length, map}
+use Rattle.std.specs.List.{list_all}
 use Rattle.channel_types.specs.declared.esi_type.EsiType.{EsiType}
 use Rattle.channel_types.specs.declared.esi_type.EsiType.TheOpen.{EsiType-F, Field-F}
 use Rattle.channel_types.specs.declared.esi_type.EsiType.TheFolds.{fold-EsiType, fold-Field}
@@ -7,7 +8,7 @@ use Rattle.channel_types.specs.declared.esi_type.Field.{Field}
 use Rattle.bit_packing.specs.declared.value.Value.{Value}
 use Rattle.bit_packing.specs.declared.value.Value.TheOpen.{Value-F}
 use Rattle.bit_packing.specs.declared.value.Value.TheViews.{out-Value}
-use Rattle.bit_packing.specs.Fitting.{fits_of}
+use Rattle.bit_packing.specs.Fitting.{fits_fields, fits_of, field_fits}
 
 -- how a value is packed
 abbrev pub Pack : Type 0
@@ -63,3 +64,17 @@ pub record PacksTo (ty : EsiType) (v : Value) (bits : List Bool) : Type 0 where
 -- These bits are those of some value that fits the type.
 abbrev pub IsPacking : List Bool → EsiType → Type 0
 IsPacking bits ty = ∥ ((v : Value) × PacksTo ty v bits) ∥₁
+
+-- What packs to these bits is this value alone.
+abbrev pub IsOnlyValue : EsiType → List Bool → Value → Type 0
+IsOnlyValue ty bits v = (other : Value) → PacksTo ty other bits → other ≡ v
+
+-- The values fit a struct's fields, or are so many and fit an array's item, and these are their bits.
+pub record PackFields (fields : List Field) (values : List Value) (bits : List Bool) : Type 0 where
+  pub fits : fits_fields (map field_fits fields) values ≡ true
+  pub packs : first_highest (map field_bits fields) values ≡ bits
+
+pub record PackItems (item : EsiType) (count : ℕ) (values : List Value) (bits : List Bool) : Type 0 where
+  pub count_of : length values ≡ count
+  pub fits : list_all (fits_of item) values ≡ true
+  pub packs : first_lowest (bits_of_value item) values ≡ bits

@@ -26,7 +26,7 @@ pub(crate) fn sets_void(word: &Word, ty: &EsiType, at: u32) -> bool
     ensures { result ≡ has_marked_one (voids_of ty.now) (drop at word.now) }
 {
     match ty {
-        EsiType::Bits { .. } => false,
+        EsiType::Bits { class: _, width: _ } => false,
         EsiType::Void => word.bit(at),
         EsiType::Struct(fields) => field_sets_void(word, fields.as_slice(), at + ty.width()),
         EsiType::Array { item, count } => item_sets_void(word, item.get(), *count, at),
