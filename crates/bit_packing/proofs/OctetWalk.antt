@@ -1,13 +1,10 @@
 -- The octets of a word one by one, and the last of some octets.
-use Rattle.std.proofs.Common.{◌≡◌, ℕ, zero, suc, ◌+◌, ◌-◌, ◌*◌, ◌/◌, ◌%◌, ◌^◌, ◌<◌, ◌≤◌, ◌==◌, ◌↔◌, Bool, true, false, not, IsTrue, List, [], ◌∷◌, ◌++◌, length, drop, take, get_or, set, refl, sym, ap, ◌∙◌, subst, arith, drop-cons}
-use Rattle.std.proofs.lemmas.Bool.{eqb-true, eq-eqb, eqb-false}
+use Rattle.std.proofs.Common.{◌≡◌, ℕ, zero, suc, ◌+◌, ◌*◌, ◌/◌, ◌%◌, ◌^◌, ◌<◌, ◌≤◌, ◌==◌, ◌↔◌, not, IsTrue, List, [], ◌∷◌, ◌++◌, length, drop, take, get_or, set, sym, ap, ◌∙◌, arith, drop-cons}
 use Rattle.std.proofs.lemmas.Bool.Decides.{nat_tests}
-use Rattle.std.proofs.lemmas.List.{drop_all, ext_get_or, take_more_set}
+use Rattle.std.proofs.lemmas.List.{drop_all, take_more_set}
 use Rattle.std.proofs.lemmas.Nat.{shr-shr, pow_pos}
 use Rattle.std.proofs.Math.Nat.{le-div_iff_mul-le}
-use Rattle.esi_base.specs.Bits.{number_of}
-use Rattle.esi_base.specs.Octets.{octet_count, octets_of}
-use Rattle.esi_base.specs.Parts.{whole, part, parts, AreSmall, whole-drop, length-parts, get_or-parts}
+use Rattle.esi_base.specs.Parts.{whole, part, parts, AreSmall, whole-drop}
 
 -- the last octet alone, as a number
 last_alone : (octets : List ℕ) (last : ℕ) → length octets ≡ last + 1 → whole 8 (drop last octets) ≡ get_or octets last 0

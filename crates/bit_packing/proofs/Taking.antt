@@ -1,15 +1,13 @@
 -- Values that are taken out of a word one after another.
-use Rattle.std.proofs.Common.{◌≡◌, ℕ, zero, suc, ◌+◌, ◌-◌, ◌*◌, ◌<◌, ◌≤◌, Bool, true, false, ◌&&◌, ◌||◌, ◌==◌, List, [], ◌∷◌, ◌++◌, length, map, take, drop, get_or, slice_range, refl, sym, ap, ◌∙◌, subst, arith, append_assoc, append-nil}
-use Rattle.std.specs.Prelude.{All}
+use Rattle.std.proofs.Common.{◌≡◌, ℕ, ◌+◌, ◌-◌, ◌*◌, ◌<◌, ◌≤◌, Bool, true, false, ◌&&◌, ◌==◌, List, [], ◌∷◌, ◌++◌, length, map, take, drop, get_or, slice_range, refl, sym, ap, ◌∙◌, subst, arith, append_assoc, append-nil}
 use Rattle.std.specs.List.{sum_by, list_all}
 use Rattle.std.proofs.lemmas.Bool.{and_parts, and_from, or_parts, eqb-true, eq-eqb}
 use Rattle.std.proofs.lemmas.List.{length-append, length-map, map-append, length-drop, length-take-le, take_more, take_all, drop-drop}
 use Rattle.std.proofs.lemmas.List.Folds.{list_all-append}
 use Rattle.std.proofs.lemmas.List.Sums.{sum_by_more}
 use Rattle.std.proofs.Math.Seq.{take-add}
-use Rattle.channel_types.specs.Types.{IsGoodType, width_of, field_width}
-use Rattle.channel_types.specs.Equations.{width-Bits, width-Void, width-Struct, width-Array, width-field}
-use Rattle.channel_types.specs.Goods.{good_type_fields, good_type_item}
+use Rattle.channel_types.specs.Types.{width_of, field_width}
+use Rattle.channel_types.specs.Equations.{width-Bits, width-Void, width-Struct, width-field}
 use Rattle.channel_types.specs.declared.Class.{Class}
 use Rattle.channel_types.specs.declared.esi_type.EsiType.{EsiType}
 use Rattle.channel_types.specs.declared.esi_type.EsiType.TheVariants as V
@@ -19,9 +17,9 @@ use Rattle.bit_packing.specs.declared.value.Value.TheVariants as W
 use Rattle.bit_packing.specs.declared.value.Value.TheVariants.{outs-Number, outs-Void, outs-Struct, outs-Array}
 use Rattle.bit_packing.specs.Fitting.{Test, pass_each, fits_fields, fits_bits, fits_void, fits_struct, fits_array, fits_of, field_fits}
 use Rattle.bit_packing.specs.Packing.{Pack, own_bits, parts_of, first_highest, first_lowest, bits_of_value, field_bits, PacksTo, PackFields, PackItems}
-use Rattle.bit_packing.specs.Voids.{has_marked_one, voids_of, stacked, repeated, field_voids}
-use Rattle.bit_packing.specs.Equations.{fits-Bits, fits-Void, fits-Struct, fits-Array, fits-field, bits-Bits, bits-Void, bits-Struct, bits-Array, bits-field, voids-Void, voids-Struct, voids-Array}
-use Rattle.bit_packing.proofs.VoidWalk.{fields_set, items_set, struct_set, IsWalked, walked_none, walked_more, walked_left, walked_room, AreWalked, items_walked_none, items_walked_more, items_left, items_room}
+use Rattle.bit_packing.specs.Voids.{has_marked_one, voids_of}
+use Rattle.bit_packing.specs.Equations.{fits-Bits, fits-Void, fits-Struct, fits-Array, fits-field, bits-Bits, bits-Void, bits-Struct, bits-Array, bits-field, voids-Void}
+use Rattle.bit_packing.proofs.VoidWalk.{fields_set, items_set, IsWalked, walked_none, walked_more, walked_left, walked_room, AreWalked, items_walked_none, items_walked_more, items_left}
 
 -- the bits that stand from a place of the word on, as many as the type is wide
 abbrev pub bits_at : List Bool → ℕ → ℕ → List Bool

@@ -1,8 +1,7 @@
 -- A walk over the fields of a struct, or over the items of an array, that looks for a void bit that is 1.
-use Rattle.std.proofs.Common.{◌≡◌, ℕ, zero, suc, ◌+◌, ◌-◌, ◌*◌, ◌<◌, ◌≤◌, Bool, true, false, ◌||◌, List, [], ◌∷◌, ◌++◌, length, map, drop, get_or, slice_get, Some, refl, sym, ap, ◌∙◌, subst, arith, add-one, drop-cons}
-use Rattle.std.proofs.lemmas.Grind.{common_steps}
+use Rattle.std.proofs.Common.{◌≡◌, ℕ, zero, suc, ◌+◌, ◌-◌, ◌*◌, ◌<◌, ◌≤◌, Bool, true, false, ◌||◌, List, [], ◌∷◌, ◌++◌, length, map, drop, get_or, slice_get, Some, refl, sym, ap, ◌∙◌, arith, drop-cons}
 use Rattle.std.specs.List.{sum_by}
-use Rattle.std.proofs.lemmas.Bool.{or_left, or_right, or_parts, or_from}
+use Rattle.std.proofs.lemmas.Bool.{or_left, or_right}
 use Rattle.std.proofs.lemmas.List.{drop-drop, drop_all, length-append}
 use Rattle.std.proofs.lemmas.List.Sums.{sum_by-cons}
 use Rattle.channel_types.specs.Types.{width_of, field_width}
@@ -10,7 +9,7 @@ use Rattle.channel_types.specs.Equations.{width-field}
 use Rattle.channel_types.specs.declared.esi_type.EsiType.{EsiType}
 use Rattle.channel_types.specs.declared.esi_type.EsiType.TheVariants as V
 use Rattle.channel_types.specs.declared.esi_type.Field.{Field}
-use Rattle.bit_packing.specs.Voids.{Marks, stacked, repeated, has_marked_one, voids_of, field_voids}
+use Rattle.bit_packing.specs.Voids.{stacked, repeated, has_marked_one, voids_of, field_voids}
 use Rattle.bit_packing.specs.Equations.{voids-Struct, voids-field}
 use Rattle.bit_packing.specs.MarkLemmas.{marked-append}
 use Rattle.bit_packing.specs.PackingLaws.{each_coded}

@@ -1,8 +1,8 @@
 -- What makes bits of things such that they can be had back, put together for structs and arrays.
-use Rattle.std.proofs.Common.{◌≡◌, ℕ, zero, suc, ◌+◌, ◌-◌, ◌*◌, ◌<◌, ◌≤◌, Bool, true, false, ◌&&◌, ◌||◌, ◌==◌, List, [], ◌∷◌, ◌++◌, length, take, drop, replicate, min, refl, sym, ap, ◌∙◌, subst, arith}
+use Rattle.std.proofs.Common.{◌≡◌, ℕ, zero, suc, ◌+◌, ◌*◌, Bool, true, false, ◌&&◌, ◌==◌, List, [], ◌∷◌, ◌++◌, length, take, drop, refl, sym, ap, ◌∙◌, subst, arith}
 use Rattle.std.specs.List.{list_all}
 use Rattle.std.proofs.lemmas.Bool.{eqb-true, eq-eqb, and_parts, and_from, or_parts, or_from}
-use Rattle.std.proofs.lemmas.List.{take-append-drop, length-append, length-take-le, length-drop, length-replicate}
+use Rattle.std.proofs.lemmas.List.{take-append-drop, length-append, length-take-le, length-drop}
 use Rattle.bit_packing.specs.declared.value.Value.{Value}
 use Rattle.bit_packing.specs.Fitting.{Test, pass_each, fits_fields}
 use Rattle.bit_packing.specs.Packing.{Pack, first_highest, first_lowest}

@@ -8,3 +8,5 @@ pub mod OctetRules
 pub mod Equations
 pub mod Packings
 pub mod OctetLaws
+pub mod Laws
+pub mod Examples

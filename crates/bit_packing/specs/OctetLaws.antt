@@ -1,5 +1,6 @@
 -- The octets of a packing are those that are judged to be, and of no other word.
-use Rattle.std.proofs.Common.{◌≡◌, ℕ, zero, suc, ◌+◌, ◌-◌, ◌*◌, ◌/◌, ◌%◌, ◌^◌, ◌<◌, ◌≤◌, ◌==◌, ◌↔◌, Bool, true, false, if◌then◌else◌, Result, Ok, Err, nat_lt, List, [], ◌∷◌, ◌++◌, length, take, drop, refl, sym, ap, ◌∙◌, subst, arith}
+use Rattle.std.proofs.Common.{◌≡◌, ℕ, ◌+◌, ◌*◌, ◌/◌, ◌^◌, ◌<◌, ◌≤◌, ◌==◌, ◌↔◌, Bool, true, false, if◌then◌else◌, Result, Ok, Err, nat_lt, List, length, refl, sym, ap, ◌∙◌, subst, arith}
+use Rattle.std.specs.Prelude.{IfOk}
 use Rattle.std.proofs.lemmas.Bool.{eqb-true, eq-eqb, lt-ltb, ltb-true}
 use Rattle.std.proofs.Math.Nat.{mod-eq_of_lt}
 use Rattle.std.proofs.Math.Pow.{pow_mono}
@@ -69,3 +70,7 @@ packing_judged octets ty word packing e =
 -- octets give a word exactly where it is a packing and they are its octets
 pub judged_Ok : (octets : List ℕ) (ty : EsiType) (word : List Bool) → AreSmall 8 octets → (judged octets ty ≡ Ok word) ↔ (IsPacking word ty × (octets_of word ≡ octets))
 judged_Ok octets ty word small = (judged_packing octets ty word small, λ h. packing_judged octets ty word h.0 h.1)
+
+pub judged_is_packing : (octets : List ℕ) (ty : EsiType) (result : Result (List Bool) Unpacked) → AreSmall 8 octets → result ≡ judged octets ty → IfOk result (λ word. IsPacking word ty)
+judged_is_packing octets ty (Ok word) small e = (judged_packing octets ty word small (sym e)).0
+judged_is_packing octets ty (Err cause) small e = tt

@@ -1,5 +1,5 @@
 -- Which octets are those of a packing, and why others are not.
-use Rattle.std.specs.Prelude.{◌≡◌, ℕ, ◌+◌, ◌/◌, ◌^◌, ◌≤◌, ◌==◌, Bool, if◌then◌else◌, List, length, Result, Ok, Err, nat_lt}
+use Rattle.std.specs.Prelude.{ℕ, ◌+◌, ◌/◌, ◌^◌, ◌≤◌, ◌==◌, Bool, if◌then◌else◌, List, length, Result, Ok, Err, nat_lt}
 use Rattle.esi_base.specs.Bits.{bits_of}
 use Rattle.esi_base.specs.Parts.{whole}
 use Rattle.channel_types.specs.Types.{width_of}

@@ -1,6 +1,6 @@
 -- The packing of values of a type: as many bits as the type is wide, each void bit 0; and all such bits are those of one
 -- value that fits, and of no other.
-use Rattle.std.proofs.Common.{◌≡◌, ℕ, ◌+◌, ◌*◌, Bool, true, false, ◌&&◌, ◌==◌, List, [], ◌∷◌, length, map, replicate, refl, sym, ap, ◌∙◌, subst, arith}
+use Rattle.std.proofs.Common.{◌≡◌, ℕ, ◌+◌, ◌*◌, Bool, true, false, List, [], ◌∷◌, length, map, replicate, refl, sym, ap, ◌∙◌, subst, arith}
 use Rattle.std.specs.Prelude.{sum}
 use Rattle.std.proofs.lemmas.Bool.{eqb-true, eq-eqb}
 use Rattle.std.proofs.lemmas.List.{length-replicate}
@@ -15,8 +15,8 @@ use Rattle.bit_packing.specs.declared.value.Value.{Value}
 use Rattle.bit_packing.specs.declared.value.Value.TheOpen.{Value-F}
 use Rattle.bit_packing.specs.declared.value.Value.TheViews.{out-Value, roll-Value, out-roll-Value, roll-out-Value}
 use Rattle.bit_packing.specs.Fitting.{Test, fits_fields, fits_bits, fits_void, fits_struct, fits_array, fits_step, field_fits_step, fits_of, field_fits}
-use Rattle.bit_packing.specs.Packing.{Pack, own_bits, parts_of, first_highest, first_lowest, bits_step, field_bits_step, bits_of_value, field_bits, PacksTo}
-use Rattle.bit_packing.specs.Voids.{Marks, stacked, repeated, has_marked_one, voids_step, field_voids_step, voids_of, field_voids, SetsVoid}
+use Rattle.bit_packing.specs.Packing.{Pack, own_bits, parts_of, first_highest, first_lowest, bits_step, field_bits_step, bits_of_value, field_bits}
+use Rattle.bit_packing.specs.Voids.{Marks, stacked, repeated, has_marked_one, voids_step, field_voids_step, voids_of, field_voids}
 use Rattle.bit_packing.specs.MarkLemmas.{unmarked}
 use Rattle.bit_packing.specs.Coding.{IsCoding, no_fields, one_field_more, fits_items, items_coded}
 

@@ -1,13 +1,12 @@
 -- Which bits are a packing of a type: as many as the type is wide, of which those of voids are 0. They are that of one
 -- value.
-use Rattle.std.proofs.Common.{◌≡◌, ℕ, Bool, false, List, length, ap, sym, ◌∙◌}
+use Rattle.std.proofs.Common.{◌≡◌, Bool, false, List, length, ap, sym, ◌∙◌}
 use Rattle.std.proofs.Math.Logic.{∥∥₁_elim}
 use Rattle.std.proofs.Props.{props}
 use Rattle.channel_types.specs.Types.{width_of}
 use Rattle.channel_types.specs.declared.esi_type.EsiType.{EsiType}
 use Rattle.bit_packing.specs.declared.value.Value.{Value}
-use Rattle.bit_packing.specs.Fitting.{fits_of}
-use Rattle.bit_packing.specs.Packing.{bits_of_value, PacksTo, IsPacking}
+use Rattle.bit_packing.specs.Packing.{PacksTo, IsPacking}
 use Rattle.bit_packing.specs.Voids.{voids_of, has_marked_one}
 use Rattle.bit_packing.specs.PackingLaws.{each_coded}
 

@@ -2,13 +2,17 @@
 #![tactic(auto)]
 
 mod fitting;
+mod laws;
 mod octets;
 mod packing;
+#[cfg(test)]
+mod tests;
 mod unpacking;
 mod value;
 mod voids;
 
 pub use fitting::fits;
+pub use laws::one_packed_value_law;
 pub use octets::{Unpacked, from_octets, to_octets};
 pub use packing::pack;
 pub use unpacking::unpack;

@@ -1,5 +1,5 @@
 //! Words as octets, the least significant octet first.
-ghost use Rattle.std.specs.Prelude.{◌≡◌, ◌≢◌, ◌<◌, ◌≤◌, ◌^◌, ◌↔◌, List, Bool, IsTrue, ◌+◌, ◌/◌, length};
+ghost use Rattle.std.specs.Prelude.{◌≡◌, ◌≢◌, ◌<◌, ◌≤◌, ◌^◌, ◌↔◌, List, Bool, IsTrue, IfOk, ◌+◌, ◌/◌, length};
 ghost use Rattle.esi_base.specs.Octets.{octets_of, octet_count};
 ghost use Rattle.esi_base.specs.Parts.{whole};
 ghost use Rattle.channel_types.specs.Types.{IsGoodType, width_of};
@@ -57,10 +57,15 @@ pub fn from_octets(octets: &[u8], ty: &EsiType) -> Result<Word, Unpacked>
     // It gives exactly the packings of the type, each for its own octets.
     ensures word { (word : List Bool) → (result ≡ Ok word) ↔ (IsPacking word ty.now × (octets_of word ≡ octets.now)) }
 
+    ensures packing { IfOk result (λ word. IsPacking word ty.now) }
+
     // The number of octets is judged first, then the bits past the width, then those of voids.
     ensures count { (result ≡ Err Unpacked.Count) ↔ (length octets.now ≢ octets_for ty.now) }
     ensures spare { (result ≡ Err Unpacked.Spare) ↔ ((length octets.now ≡ octets_for ty.now) × SetsSpare octets.now ty.now) }
     ensures void_bit { (result ≡ Err Unpacked.VoidBit) ↔ ((length octets.now ≡ octets_for ty.now) × (whole 8 octets.now < 2 ^ width_of ty.now) × SetsVoid (bits_from octets.now ty.now) ty.now) }
+
+    // In one function of the octets and the type.
+    ensures answer { result ≡ judged octets.now ty.now }
 {
     word_of(octets, ty)
 }

@@ -16,6 +16,7 @@ pub fn pack(value: &Value, ty: &EsiType) -> Word
     requires good { IsGoodType ty.now }
     requires fits { IsTrue (fits_of ty.now value.now) }
     ensures bits { result ≡ bits_of_value ty.now value.now }
+    ensures width { length result ≡ width_of ty.now }
     ensures packing { IsPacking result ty.now }
 {
     packed(value, ty)

@@ -1,4 +1,4 @@
-use Rattle.std.proofs.Common.{◌≡◌, ℕ, ◌+◌, ◌-◌, ◌*◌, ◌/◌, ◌^◌, ◌≤◌, ◌==◌, ◌↔◌, IsTrue, not, length, get_or, ap, sym, ◌∙◌, subst, arith}
+use Rattle.std.proofs.Common.{◌≡◌, ◌+◌, ◌-◌, ◌*◌, ◌/◌, ◌^◌, ◌≤◌, ◌==◌, ◌↔◌, IsTrue, not, length, ap, sym, ◌∙◌, subst, arith}
 use Rattle.esi_base.specs.Parts.{whole, AreSmall-from_get_or}
 use Rattle.bit_packing.proofs.OctetWalk.{last_shifted, is_above}
 use Rattle.bit_packing.proofs.octets.has_spare.Goals as goal

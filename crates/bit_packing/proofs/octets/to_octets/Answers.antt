@@ -1,4 +1,4 @@
-use Rattle.std.proofs.Common.{length, arith}
+use Rattle.std.proofs.Common.{arith}
 use Rattle.esi_base.specs.Bits.{number_of}
 use Rattle.bit_packing.proofs.OctetWalk.{octets_more}
 use Rattle.bit_packing.proofs.octets.to_octets.Goals as goal

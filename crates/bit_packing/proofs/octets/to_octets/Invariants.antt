@@ -1,4 +1,4 @@
-use Rattle.std.proofs.Common.{◌≡◌, length, take}
+use Rattle.std.proofs.Common.{◌≡◌, take}
 use Rattle.esi_base.specs.Bits.{number_of}
 use Rattle.esi_base.specs.Parts.{parts}
 use Rattle.bit_packing.proofs.octets.to_octets.Given as goal

@@ -1,12 +1,9 @@
 -- What a struct's fields or an array's items need is what the type and the value give; then a value a step.
-use Rattle.std.proofs.Common.{rules, ◌≡◌, ◌≤◌, ◌+◌, ◌*◌, IsTrue, All, Bool, true, List, [], ◌∷◌, ◌++◌, length, drop, get_or, map, sym, ap, ◌∙◌, subst, arith, append-nil}
+use Rattle.std.proofs.Common.{rules, ◌≡◌, ◌≤◌, ◌+◌, ◌*◌, All, true, [], length, drop, get_or, map, sym, ap, ◌∙◌, subst, arith, append-nil}
 use Rattle.std.specs.List.{sum_by, list_all}
 use Rattle.channel_types.specs.Types.{IsGoodType, width_of, field_width}
-use Rattle.channel_types.specs.Equations.{width-Struct, width-Array}
-use Rattle.channel_types.specs.Goods.{good_type_fields, good_type_item, good_low, good_high}
-use Rattle.channel_types.specs.declared.esi_type.EsiType.TheVariants as V
+use Rattle.channel_types.specs.Equations.{width-Struct}
 use Rattle.channel_types.specs.declared.esi_type.EsiType.TheViews.{the_lemmas}
-use Rattle.bit_packing.specs.declared.value.Value.TheVariants as W
 use Rattle.bit_packing.specs.declared.value.Value.TheViews as views
 use Rattle.bit_packing.specs.Fitting.{fits_of, field_fits, fits_fields}
 use Rattle.bit_packing.proofs.Laying.{IsLaid, HasGoodType, laid_none, room_at, more_at, struct_given, array_given}

@@ -1,16 +1,13 @@
 -- Each kind of type by what it says of its parts; then a value a step.
-use Rattle.std.proofs.Common.{rules, ◌≡◌, ◌≤◌, ◌+◌, ◌-◌, ◌*◌, All, Bool, true, false, List, [], ◌∷◌, ◌++◌, length, drop, take, get_or, map, sym, ap, ◌∙◌, subst, arith}
+use Rattle.std.proofs.Common.{rules, ◌≡◌, ◌≤◌, ◌+◌, ◌-◌, ◌*◌, All, false, length, drop, sym, ap, ◌∙◌, subst, arith}
 use Rattle.std.specs.List.{sum_by}
-use Rattle.std.proofs.lemmas.List.{length-take-le, length-drop}
 use Rattle.channel_types.specs.Types.{IsGoodType, width_of, field_width}
-use Rattle.channel_types.specs.Equations.{width-Bits, width-Void, width-Struct, width-Array}
+use Rattle.channel_types.specs.Equations.{width-Bits, width-Struct, width-Array}
 use Rattle.channel_types.specs.Goods.{good_type_fields, good_type_item, good_low}
-use Rattle.channel_types.specs.declared.esi_type.EsiType.TheVariants as V
 use Rattle.channel_types.specs.declared.esi_type.EsiType.TheViews.{the_lemmas}
-use Rattle.bit_packing.specs.declared.value.Value.TheVariants as W
-use Rattle.bit_packing.specs.Packing.{PacksTo, PackFields, PackItems}
+use Rattle.bit_packing.specs.Packing.{PackFields}
 use Rattle.bit_packing.specs.Voids.{has_marked_one, voids_of}
-use Rattle.bit_packing.specs.Equations.{voids-Void, voids-Array}
+use Rattle.bit_packing.specs.Equations.{voids-Array}
 use Rattle.bit_packing.proofs.VoidWalk.{fields_set, items_set, struct_set, walked_room, items_room}
 use Rattle.bit_packing.proofs.Laying.{HasGoodType}
 use Rattle.bit_packing.proofs.Taking.{bits_at, IsTaken, taken_more, taken_all, field_clear, AreTaken, items_taken_more, item_clear, number_at, void_at, struct_at}

@@ -1,5 +1,5 @@
 -- A packing is as wide as its type, and no void bit of it is 1.
-use Rattle.std.proofs.Common.{◌≡◌, List, Bool, Result, Ok, Err, length, take, subst, arith}
+use Rattle.std.proofs.Common.{List, Bool, Result, Ok, Err, subst, arith}
 use Rattle.std.specs.Prelude.{IfOk}
 use Rattle.std.proofs.lemmas.List.{take_all}
 use Rattle.channel_types.specs.Types.{width_of}

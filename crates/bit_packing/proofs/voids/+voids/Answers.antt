@@ -1,14 +1,12 @@
 -- The walks over fields and items, step by step; each kind of type by its equation.
-use Rattle.std.proofs.Common.{rules, ◌≡◌, ◌≤◌, ◌+◌, ◌*◌, All, Bool, true, false, List, [], ◌∷◌, drop, length, map, replicate, refl, sym, ap, ◌∙◌, subst, arith}
+use Rattle.std.proofs.Common.{rules, ◌≡◌, ◌+◌, ◌*◌, All, drop, sym, ap, ◌∙◌, subst, arith}
 use Rattle.std.specs.List.{sum_by}
 use Rattle.channel_types.specs.Types.{IsGoodType, width_of, field_width}
 use Rattle.channel_types.specs.Equations.{width-Struct, width-Array}
 use Rattle.channel_types.specs.Goods.{good_type_fields, good_type_item}
-use Rattle.channel_types.specs.declared.esi_type.EsiType.{EsiType}
-use Rattle.channel_types.specs.declared.esi_type.EsiType.TheVariants as V
 use Rattle.channel_types.specs.declared.esi_type.EsiType.TheViews.{the_lemmas}
 use Rattle.bit_packing.specs.Voids.{has_marked_one, voids_of}
-use Rattle.bit_packing.specs.Equations.{voids-Bits, voids-Void, voids-Struct}
+use Rattle.bit_packing.specs.Equations.{voids-Bits, voids-Void}
 use Rattle.bit_packing.specs.MarkLemmas.{unmarked}
 use Rattle.bit_packing.proofs.VoidWalk.{fields_set, void_set, struct_set, walked_more, walked_found, items_room, items_walked_more, items_walked_found}
 use Rattle.bit_packing.proofs.voids.+voids.Goals as goal

@@ -1,10 +1,7 @@
 -- The two tests are what the bits of a packing have.
-use Rattle.std.proofs.Common.{rules, ◌≡◌, IsTrue, ◌↔◌, Bool, true, false, not, length, sym, ap, ◌∙◌, refl, arith}
-use Rattle.std.specs.Prelude.{nat_eq}
+use Rattle.std.proofs.Common.{◌≡◌, Bool, true, false, not, length, sym, ap, ◌∙◌, refl}
 use Rattle.std.proofs.lemmas.Bool.{eqb-true, eq-eqb}
 use Rattle.channel_types.specs.Types.{width_of}
-use Rattle.bit_packing.specs.Packing.{IsPacking}
-use Rattle.bit_packing.specs.Voids.{has_marked_one, voids_of}
 use Rattle.bit_packing.specs.Packings.{packing_width, packing_clear, made_packing}
 use Rattle.bit_packing.proofs.voids.is_packing.Goals as goal
 
