@@ -1,5 +1,4 @@
 pub mod DrivesLemmas
-pub mod HexLemmas
 pub mod TextLemmas
 pub mod JudgedLemmas
 pub mod ToldLemmas

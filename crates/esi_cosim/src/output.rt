@@ -6,11 +6,15 @@ ghost use Rattle.esi_cosim.specs.Output.{got_line, done_line, text_of};
 ghost use Rattle.esi_base.specs.Octets.{octets_of};
 ghost use Rattle.small_text.specs.Hexadecimal.{hex_of};
 
+use bit_packing::to_octets;
 use cycle_rules::Moved;
 use esi_base::{List, NoMemory, Octets, Word};
 use pipe_cells::Pipe;
 use small_text::push_hex;
 use std::alloc::{AllocError, Global};
+
+/// The most octets of a word.
+const MOST_OCTETS: usize = 128;
 
 /// The whole text of a simulation: a `got` line for each value handed, in order, and the `done` line.
 pub fn text(alloc: Global, pipe: &Pipe) -> Result<Octets, NoMemory>
@@ -57,8 +61,8 @@ fn push_got_line(alloc: Global, text: &mut Octets, moved: &Moved) -> Result<(), 
 fn push_octets(text: &mut Octets, word: &Word) -> Result<(), NoMemory>
     ensures { IfOk result (λ _. text.new ≡ text.old ++ hex_of (octets_of word.now)) }
 {
-    for at in 0..(word.width() + 7) / 8 {
-        push_hex(text, &[word.octet(at)])?;
-    }
-    Ok(())
+    let mut octets = [0; MOST_OCTETS];
+    let octets = &mut octets[..word.width().div_ceil(8) as usize];
+    to_octets(word, octets);
+    push_hex(text, octets)
 }

@@ -29,7 +29,7 @@ impl Word {
         ensures bits { result ≡ slice_range self.now low (high + 1) }
         ensures width { length result ≡ high - low + 1 }
     {
-        let _ = &self.width;
+        prove!(high < self.width);
         let width = high - low + 1;
         Word {
             limbs: limbs::cut(&self.limbs, low, width),

@@ -39,3 +39,6 @@ returns-clause-bits c =
 
 pub returns-clause-width : goal.returns-clause-width
 returns-clause-width c = length-bits_of (c.args.high - c.args.low + 1) (whole 64 c.cut.result)
+
+pub prove-unreachable-requires : goal.prove-unreachable-requires
+prove-unreachable-requires c = omega (arith, width_of c.self.inside c.args.self.now c.self.view_is)
