@@ -51,6 +51,9 @@ pub fn to_octets(word: &Word, out: &mut [u8])
 pub fn from_octets(octets: &[u8], ty: &EsiType) -> Result<Word, Unpacked>
     requires { IsGoodType ty.now }
 
+    // The answer is that of the tests in their order.
+    ensures judged { result ≡ judged octets.now ty.now }
+
     // It gives exactly the packings of the type, each for its own octets.
     ensures word { (word : List Bool) → (result ≡ Ok word) ↔ (IsPacking word ty.now × (octets_of word ≡ octets.now)) }
 

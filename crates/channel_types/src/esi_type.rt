@@ -21,6 +21,8 @@ pub enum EsiType {
 #[cycle(types)]
 #[derive(Debug, Drop)]
 pub struct Field {
+    /// A name of the design text, of which no other field of the struct has the same.
     pub name: Octets,
+    /// What the field carries.
     pub ty: EsiType,
 }

@@ -13,3 +13,4 @@ mod width;
 pub use esi_lex::Class;
 pub use esi_type::{EsiType, Field};
 pub use names::names_repeat;
+pub use width::capped_width;

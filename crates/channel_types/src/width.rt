@@ -5,7 +5,7 @@ ghost use Rattle.channel_types.specs.Types.{width_of, IsGoodType};
 use crate::esi_type::EsiType;
 
 /// What stands for every width above 1,024 bits.
-const ABOVE: u32 = 1025;
+const TOO_WIDE: u32 = 1025;
 
 impl EsiType {
     /// The width in bits. It takes no memory.
@@ -15,27 +15,27 @@ impl EsiType {
         ensures low { 1 ≤ result }
         ensures high { result ≤ 1024 }
     {
-        self.capped_width()
+        capped_width(self)
     }
+}
 
-    /// The width in bits of a type that need not be good, where 1,025 stands for every width above
-    /// 1,024. It takes no memory.
-    pub fn capped_width(&self) -> u32
-        ensures { result ≡ min 1025 (width_of self.now) }
-    {
-        match self {
-            EsiType::Bits { class: _, width } => capped(*width as u64),
-            EsiType::Void => 1,
-            EsiType::Struct(fields) => {
-                let mut sum = 0;
-                for field in fields.as_slice() {
-                    sum = capped(sum as u64 + field.ty.capped_width() as u64);
-                }
-                sum
+/// The width in bits, where 1,025 stands for every width above 1,024. It takes no memory. It serves
+/// the judge of types that are being read, which need not be good.
+pub fn capped_width(ty: &EsiType) -> u32
+    ensures { result ≡ min 1025 (width_of ty.now) }
+{
+    match ty {
+        EsiType::Bits { class: _, width } => capped(*width as u64),
+        EsiType::Void => 1,
+        EsiType::Struct(fields) => {
+            let mut sum = 0;
+            for field in fields.as_slice() {
+                sum = capped(sum as u64 + capped_width(&field.ty) as u64);
             }
-            EsiType::Array { item, count } => {
-                capped(*count as u64 * item.get().capped_width() as u64)
-            }
+            sum
+        }
+        EsiType::Array { item, count } => {
+            capped(*count as u64 * capped_width(item.get()) as u64)
         }
     }
 }
@@ -44,9 +44,9 @@ impl EsiType {
 fn capped(width: u64) -> u32
     ensures { result ≡ min 1025 width }
 {
-    if width < ABOVE as u64 {
+    if width < TOO_WIDE as u64 {
         width as u32
     } else {
-        ABOVE
+        TOO_WIDE
     }
 }

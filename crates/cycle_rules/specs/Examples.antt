@@ -6,7 +6,7 @@ use Rattle.cycle_rules.specs.Lists.{first}
 use Rattle.cycle_rules.specs.One.{simulation_of, started}
 use Rattle.cycle_rules.specs.Stimulated.{Simulation, takes, cycled_by, stimulated}
 use Rattle.cycle_rules.specs.declared.step.Drive.{Drive}
-use Rattle.cycle_rules.specs.declared.step.Drive.TheVariants.{Put, Run}
+use Rattle.cycle_rules.specs.declared.step.Drive.TheVariants.{Put, Ready, Run}
 use Rattle.cycle_rules.specs.declared.step.Moved.{Moved}
 
 -- the word of an octet
@@ -121,6 +121,11 @@ switched_off = refl
 stays_in_ring : (stimulated straight (Put 1 (octet 4) ∷ puts 0 (1 ∷ []) 3) (two_channels false)).wired.to_client ≡ [] ∷ (octet 4 ∷ []) ∷ []
 unfolding stimulated cycled_by
 stays_in_ring = refl
+
+-- A switch that is set counts from the next cycle on, until it is set again.
+set_off_and_on : seen_in (run_one straight tt (Put 0 (octet 5) ∷ Ready 0 false ∷ Run 2 ∷ Ready 0 true ∷ Run 2 ∷ [])).handed ≡ seen 2 0 5 ∷ []
+unfolding stimulated cycled_by
+set_off_and_on = refl
 
 -- Where the session takes only three more values, the first channel's come first.
 three_left : takes 3 ((octet 1 ∷ octet 2 ∷ []) ∷ (octet 3 ∷ octet 4 ∷ []) ∷ []) ([] ∷ [] ∷ []) ≡ (octet 1 ∷ octet 2 ∷ []) ∷ (octet 3 ∷ []) ∷ []

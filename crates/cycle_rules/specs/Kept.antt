@@ -3,7 +3,7 @@ use Rattle.std.specs.Prelude.{◌≡◌, ℕ, ◌==◌, Bool, if◌then◌else�
 use Rattle.cycle_rules.specs.Circuit.{Bits, Circuit}
 use Rattle.cycle_rules.specs.Stimulated.{Simulation}
 use Rattle.cycle_rules.specs.declared.step.Drive.{Drive}
-use Rattle.cycle_rules.specs.declared.step.Drive.TheVariants.{Put, Run}
+use Rattle.cycle_rules.specs.declared.step.Drive.TheVariants.{Put, Ready, Run}
 use Rattle.cycle_rules.specs.declared.step.Moved.{Moved}
 
 -- the words of a channel's entries in a journal, in order
@@ -18,6 +18,7 @@ waiting_on channel sim = slice_index_or sim.waiting channel []
 abbrev pub words_put : ℕ → List Drive → List Bits
 words_put channel [] = []
 words_put channel (Put at word ∷ steps) = (if at == channel then word ∷ [] else []) ++ words_put channel steps
+words_put channel (Ready at on ∷ steps) = words_put channel steps
 words_put channel (Run cycles ∷ steps) = words_put channel steps
 
 -- a circuit of so many to-server channels says of each of them whether it takes what it offers

@@ -10,7 +10,7 @@ use Rattle.cycle_rules.specs.OrderLemmas.{append_nil, map-append'}
 use Rattle.cycle_rules.specs.Stimulated.{Simulation, session_size, takes, entering_of, cycled, cycled_by, stepped, stimulated}
 use Rattle.cycle_rules.specs.Kept.{words_on, waiting_on, words_put, AnswersAll, HasChannels, LosesNone}
 use Rattle.cycle_rules.specs.declared.step.Drive.{Drive}
-use Rattle.cycle_rules.specs.declared.step.Drive.TheVariants.{Put, Run}
+use Rattle.cycle_rules.specs.declared.step.Drive.TheVariants.{Put, Ready, Run}
 use Rattle.cycle_rules.specs.declared.step.Moved.{Moved}
 
 length_zip : {A B C : Type 0} (f : A → B → C) (xs : List A) (ys : List B) → length xs ≡ length ys → length (zip_with f xs ys) ≡ length xs
@@ -158,6 +158,7 @@ module _ {S : Type 0} (circuit : Circuit S) (count channel : ℕ) (answers : Ans
       (record { waiting = length_set sim.waiting at (slice_index_or sim.waiting at [] ++ word ∷ []) ∙ h.waiting; rings = h.rings })
       ∙ ap (λ ws. words_on channel sim.taken ++ (ws ++ words_put channel steps)) (put_at sim.waiting at channel word (omega (arith, h.waiting)))
       ∙ ap (λ ws. words_on channel sim.taken ++ ws) (append_assoc (waiting_on channel sim) (if at == channel then word ∷ [] else []) (words_put channel steps))
+  steps_keep (Ready at on ∷ steps) sim h = steps_keep steps (stepped circuit (Ready at on) sim) (record { waiting = h.waiting; rings = h.rings })
   steps_keep (Run cycles ∷ steps) sim h =
       let after : Simulation S = cycled_by circuit cycles sim in
       steps_keep steps after (cycled_by_channels cycles sim h)

@@ -9,7 +9,7 @@ use Rattle.cycle_rules.specs.One.{One, simulation_of, started}
 use Rattle.cycle_rules.specs.Order.{words_of, KeepsOrder, InOrder, EndsInOrder, StaysInOrder, HandsInOrder}
 use Rattle.cycle_rules.specs.Stimulated.{Simulation, session_size, takes, cycled, cycled_by, stepped, stimulated}
 use Rattle.cycle_rules.specs.declared.step.Drive.{Drive}
-use Rattle.cycle_rules.specs.declared.step.Drive.TheVariants.{Put, Run}
+use Rattle.cycle_rules.specs.declared.step.Drive.TheVariants.{Put, Ready, Run}
 
 pub append_nil : {A : Type 0} (xs : List A) → xs ++ [] ≡ xs
 append_nil [] = refl
@@ -141,8 +141,21 @@ module _ {S : Type 0} (circuit : Circuit S) (held : S → List Bits) (law : Keep
   put_in_order zero word one before = before
   put_in_order (suc channel) word one before = before
 
+  abbrev switch_one : ℕ → Bool → One S → One S
+  switch_one zero on one = record one { switch = on }
+  switch_one (suc channel) on one = one
+
+  switch-one : (channel : ℕ) (on : Bool) (one : One S) → stepped circuit (Ready channel on) (simulation_of one) ≡ simulation_of (switch_one channel on one)
+  switch-one zero on one = refl
+  switch-one (suc channel) on one = refl
+
+  switch_in_order : (channel : ℕ) (on : Bool) (one : One S) → InOrder held one → InOrder held (switch_one channel on one)
+  switch_in_order zero on one before = before
+  switch_in_order (suc channel) on one before = before
+
   step_in_order : (step : Drive) (one : One S) → InOrder held one → (end : One S) × (stepped circuit step (simulation_of one) ≡ simulation_of end) × InOrder held end
   step_in_order (Put channel word) one before = (put_one channel word one, put-one channel word one, put_in_order channel word one before)
+  step_in_order (Ready channel on) one before = (switch_one channel on one, switch-one channel on one, switch_in_order channel on one before)
   step_in_order (Run cycles) one before = cycles_in_order cycles one before
 
   pub steps_in_order : (steps : List Drive) (one : One S) → InOrder held one → EndsInOrder circuit held steps one

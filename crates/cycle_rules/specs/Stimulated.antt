@@ -6,7 +6,7 @@ use Rattle.cycle_rules.specs.Cycle.{Wired, ring_size, after_cycle, handed_in, mo
 use Rattle.cycle_rules.specs.declared.step.Moved.{Moved}
 use Rattle.cycle_rules.specs.Lists.{zip_with}
 use Rattle.cycle_rules.specs.declared.step.Drive.{Drive}
-use Rattle.cycle_rules.specs.declared.step.Drive.TheVariants.{Put, Run}
+use Rattle.cycle_rules.specs.declared.step.Drive.TheVariants.{Put, Ready, Run}
 
 -- how many values a session takes at most
 abbrev pub session_size : ℕ
@@ -51,10 +51,11 @@ unfoldable pub cycled_by : {S : Type 0} → Circuit S → ℕ → Simulation S �
 cycled_by circuit zero sim = sim
 cycled_by circuit (suc count) sim = cycled_by circuit count (cycled circuit sim)
 
--- one step: a value put waits behind those of its channel, and a run is that many cycles
+-- one step: a value put waits behind those of its channel, a switch is set, and a run is that many cycles
 abbrev pub stepped : {S : Type 0} → Circuit S → Drive → Simulation S → Simulation S
 stepped circuit (Put channel word) sim =
     record sim { waiting = slice_set sim.waiting channel (slice_index_or sim.waiting channel [] ++ word ∷ []) }
+stepped circuit (Ready channel on) sim = record sim { switches = slice_set sim.switches channel on }
 stepped circuit (Run cycles) sim = cycled_by circuit cycles sim
 
 -- all the steps, in order
@@ -65,6 +66,7 @@ stimulated circuit (step ∷ steps) sim = stimulated circuit steps (stepped circ
 -- the cycles that the steps run in all
 abbrev pub cycles_of_step : Drive → ℕ
 cycles_of_step (Put channel word) = 0
+cycles_of_step (Ready channel on) = 0
 cycles_of_step (Run cycles) = cycles
 
 abbrev pub cycles_in : List Drive → ℕ

@@ -8,7 +8,7 @@ use Rattle.cycle_rules.specs.Lists.{zip_with}
 use Rattle.cycle_rules.specs.Stimulated.{Simulation, session_size, takes, entering_of, cycled, cycled_by, stepped, stimulated}
 use Rattle.cycle_rules.specs.Within.{AreWithin, IsWithin}
 use Rattle.cycle_rules.specs.declared.step.Drive.{Drive}
-use Rattle.cycle_rules.specs.declared.step.Drive.TheVariants.{Put, Run}
+use Rattle.cycle_rules.specs.declared.step.Drive.TheVariants.{Put, Ready, Run}
 use Rattle.cycle_rules.specs.declared.step.Moved.{Moved}
 
 at_most : {A : Type 0} (k : ℕ) (xs : List A) → length (take k xs) ≤ k
@@ -88,6 +88,7 @@ module _ {S : Type 0} (circuit : Circuit S) where
 
   stepped_within : (step : Drive) (sim : Simulation S) → IsWithin sim → IsWithin (stepped circuit step sim)
   stepped_within (Put channel word) sim h = record { to_server = h.to_server; to_client = h.to_client; session = h.session }
+  stepped_within (Ready channel on) sim h = record { to_server = h.to_server; to_client = h.to_client; session = h.session }
   stepped_within (Run cycles) sim h = cycled_by_within cycles sim h
 
   pub stays_within : (steps : List Drive) (sim : Simulation S) → IsWithin sim → IsWithin (stimulated circuit steps sim)

@@ -11,11 +11,11 @@ use Rattle.esi_lex.specs.declared.token.Fault.TheVariants.{UnknownOctet}
 use Rattle.esi_lex.specs.declared.token.Class.{Class}
 use Rattle.esi_lex.specs.declared.token.Class.TheVariants.{Unsigned}
 use Rattle.design_tokens.specs.declared.kind.Kind.{Kind}
-use Rattle.design_tokens.specs.declared.kind.Kind.TheVariants.{Name, TypeWord, Small}
+use Rattle.design_tokens.specs.declared.kind.Kind.TheVariants.{Name, TypeWord, Small, Great}
 use Rattle.design_tokens.specs.declared.reading.Fault as code_fault
 use Rattle.design_tokens.specs.declared.reading.Halt.{Halt}
 use Rattle.design_tokens.specs.declared.reading.Halt.TheVariants.{Refused, NoMemory}
-use Rattle.design_tokens.specs.Kinds.{code, kind_of, counts, refusal}
+use Rattle.design_tokens.specs.Kinds.{code, kind_of, numbers, counts, refusal}
 
 -- a word of each kind: a keyword by its kind, else a name
 abbrev pub spelling : ℕ → List ℕ
@@ -111,6 +111,10 @@ name = took token_grammar (code Name ∷ []) (code Name) (λ x. word_in x.1)
 -- a count, a number below 2^32; refusals are told as where only `Small` may stand
 abbrev pub count : Reader Token ℕ
 count = took_any token_grammar (code Small ∷ []) counts (λ x. number_in x.1)
+
+-- any number: its value, and the offset of its first octet; refusals are told as where only `Great` may stand
+abbrev pub number : Reader Token (ℕ × ℕ)
+number = took_any token_grammar (code Great ∷ []) numbers (λ x. (number_in x.1, x.0.0))
 
 -- a type word: its class and width, and the offset behind it
 abbrev pub type_word : Reader Token ((Class × ℕ) × ℕ)

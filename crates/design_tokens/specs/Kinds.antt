@@ -1,5 +1,5 @@
 -- The kinds of tokens that the grammar of the design text tells apart, and the refusal of a token that is not wanted.
-use Rattle.std.specs.Prelude.{ℕ, Bool, false, ◌==◌, ◌||◌, ◌&&◌, ◌^◌, not, nat_lt, nat_le, List, [], ◌∷◌, codes, if◌then◌else◌}
+use Rattle.std.specs.Prelude.{ℕ, Bool, ◌==◌, ◌||◌, ◌&&◌, ◌^◌, not, nat_lt, nat_le, List, [], ◌∷◌, codes, if◌then◌else◌}
 use Rattle.std.specs.List.{list_all}
 use Rattle.std.specs.Str.{bytes_eq}
 use Rattle.grammar_law.specs.Rule.{Kinds}
@@ -149,28 +149,32 @@ kind_of End = Nothing
 abbrev pub is_reserved : ℕ → Bool
 is_reserved k = k == code TypeWord || nat_le (code Esi) k
 
--- a number, by its number
-abbrev pub is_number : ℕ → Bool
-is_number k = k == code One || k == code Small || k == code Great
+-- the kinds of numbers
+abbrev pub numbers : Kinds
+numbers = code One ∷ code Small ∷ code Great ∷ []
+
+-- what begins an item that is no pipe, by its number
+abbrev pub begins_item : ℕ → Bool
+begins_item k = k == code Bundle || k == code Service || k == code Module || k == code Top
 
 -- the kinds of counts
 abbrev pub counts : Kinds
 counts = code One ∷ code Small ∷ []
 
--- only a name may stand there
+-- only a name may stand there; numbers that are no kind's say nothing
 abbrev pub are_names : Kinds → Bool
-are_names [] = false
-are_names (k ∷ ks) = list_all (λ j. j == code Name) (k ∷ ks)
+are_names wanted = among wanted (code Name) && list_all (λ k. k == code Name || nat_lt (code Union) k) wanted
 
 -- The number of the refusal where only these kinds may stand: 206 at the end, a fault's own number, 207 for a keyword or
 -- a type word where only a name may stand, 209 for another number where only the version 1 may, 203 for a number above
--- 2^32 - 1 where only a count may, and 205 for all else.
+-- 2^32 - 1 where only a count may, 219 for what begins another item where a pipe may stand, and 205 for all else.
 unfoldable pub unwanted : Kinds → ℕ → ℕ
 unwanted wanted k =
     if are_names wanted && is_reserved k then 207
-    else (if among wanted (code One) && not (among wanted (code Small)) && is_number k then 209
+    else (if among wanted (code One) && not (among wanted (code Small)) && among numbers k then 209
     else (if among wanted (code Small) && not (among wanted (code Great)) && k == code Great then 203
-    else 205))
+    else (if among wanted (code Pipe) && begins_item k then 219
+    else 205)))
 
 abbrev pub refusal : Kinds → Token → ℕ
 refusal wanted End = 206

@@ -114,7 +114,7 @@ pub fn kind_of(token: &Token<'_>) -> Kind
     }
 }
 
-/// Whether two kinds are one.
+/// Whether two kinds are one, by the numbers that contracts see.
 pub fn is_same(a: Kind, b: Kind) -> bool
     ensures { result ≡ (spec.code a == spec.code b) }
 {

@@ -15,14 +15,18 @@ use std::alloc::{AllocError, Global};
 /// A refusal's number, and the offset of the first octet of the token that is refused; None at the end.
 #[derive(Clone, Copy, Debug, PartialEq, Eq)]
 pub struct Fault {
+    /// The number of the rule that the text breaks.
     pub number: u16,
+    /// The offset of the refused token's first octet.
     pub at: Option<usize>,
 }
 
 /// Why a reader stops: a token is refused, or memory could not be had.
 #[derive(Clone, Copy, Debug, PartialEq, Eq)]
 pub enum Halt {
+    /// A token is refused.
     Refused(Fault),
+    /// Memory could not be had.
     NoMemory,
 }
 
@@ -42,7 +46,8 @@ impl From<AllocError> for Halt {
     }
 }
 
-/// The number of the refusal of a token where only one of this kind may stand, which is no count.
+/// The number of the refusal of a token where only one of this kind may stand; `Small` stands for
+/// every count.
 #[tactic(auto, unfolding(crate::specs::Kinds::unwanted))]
 fn number_of_refusal(wanted: Kind, token: &Token<'_>) -> u16
     ensures { result ≡ kinds.refusal (kinds.code wanted ∷ []) token.now }
@@ -72,14 +77,32 @@ fn unwanted(wanted: Kind, found: Kind) -> u16
         Kind::Name if is_reserved(found) => 207,
         Kind::One if is_number(found) => 209,
         Kind::Small if is_same(found, Kind::Great) => 203,
+        Kind::Pipe if begins_item(found) => 219,
         _ => 205,
     }
 }
 
 fn is_number(kind: Kind) -> bool
-    ensures { result ≡ kinds.is_number (kinds.code kind) }
+    ensures { result ≡ among kinds.numbers (kinds.code kind) }
 {
     matches!(kind, Kind::One | Kind::Small | Kind::Great)
+}
+
+/// Whether a word of this kind begins an item that is no pipe.
+fn begins_item(kind: Kind) -> bool
+    ensures { result ≡ kinds.begins_item (kinds.code kind) }
+{
+    matches!(
+        kind,
+        Kind::Bundle | Kind::Service | Kind::Module | Kind::Top
+    )
+}
+
+/// The offset of the token that comes next, 0 at the end.
+fn next_begin(cursor: &Cursor<'_>) -> usize
+    ensures { result ≡ (first_lexeme spec.token_grammar cursor.now).0.0 }
+{
+    cursor.token_begin().unwrap_or(0)
 }
 
 /// The offset behind the token that comes next, 0 at the end.
@@ -142,6 +165,19 @@ pub fn count(cursor: &mut Cursor<'_>) -> Result<u32, Halt>
     let count = number_in(cursor.peek()) as u32;
     cursor.advance();
     Ok(count)
+}
+
+/// Any number: its value, and the offset of its first octet.
+pub fn number(cursor: &mut Cursor<'_>) -> Result<(u128, usize), Halt>
+    ensures { spec.AnswersAt (spec.number cursor.old) result cursor.new }
+{
+    if !is_number(kind_of(cursor.peek())) {
+        return Err(refuse(cursor, Kind::Great));
+    }
+    let value = number_in(cursor.peek());
+    let begin = next_begin(cursor);
+    cursor.advance();
+    Ok((value, begin))
 }
 
 /// The class and width of a type word, of no width for any other token.

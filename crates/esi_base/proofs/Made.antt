@@ -10,6 +10,9 @@ use Rattle.esi_base.specs.declared.word.Word.TheInside.{Inside}
 pub width_of : (word : Inside) (bits : List Bool) → bits_in word ≡ bits → length bits ≡ word.width
 width_of word bits e = sym (ap length e) ∙ length-bits_of word.width (whole 64 word.limbs)
 
+pub same_width : (a b : Inside) (xs ys : List Bool) → bits_in a ≡ xs → bits_in b ≡ ys → length xs ≡ length ys → b.width ≡ a.width
+same_width a b xs ys e f h = sym (width_of b ys f) ∙ sym h ∙ width_of a xs e
+
 pub number_in : (word : Inside) (bits : List Bool) → IsWord word → bits_in word ≡ bits → number_of bits ≡ whole 64 word.limbs
 number_in word bits h e = sym (ap number_of e) ∙ number_of-bits_of word.width (whole 64 word.limbs) ∙ mod-eq_of_lt h.within
 

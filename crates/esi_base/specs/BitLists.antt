@@ -1,12 +1,15 @@
 -- Laws of lists of bits: numbers of lists that are joined, cut or taken bit by bit.
-use Rattle.std.specs.Prelude.{◌≡◌, ℕ, zero, suc, ◌+◌, ◌-◌, ◌*◌, ◌/◌, ◌%◌, ◌^◌, ◌<◌, ◌≤◌, ◌==◌, Bool, true, false, List, [], ◌∷◌, ◌++◌, length, take, drop, slice_range, ◌↔◌, refl}
+use Rattle.std.specs.Prelude.{◌≡◌, ℕ, zero, suc, ◌+◌, ◌-◌, ◌*◌, ◌/◌, ◌%◌, ◌^◌, ◌<◌, ◌≤◌, ◌==◌, ◌&&◌, ◌||◌, Bool, true, false, not, List, [], ◌∷◌, ◌++◌, length, map, replicate, take, drop, slice_get, slice_range, Some, bit_and, bit_or, bit_xor, ◌↔◌, refl}
+use Rattle.std.specs.Bool.{xor, one_answer}
 use Rattle.std.specs.Cmp.{booleans_Decides}
 use Rattle.std.specs.Cmp.Lexicographic.{pointwise_decides}
 use Rattle.std.proofs.Common.{sym, ◌∙◌, ap, arith}
-use Rattle.std.proofs.lemmas.Nat.{shr-shr, pow-add, mul-le, field_of, shr_high, mod_low}
+use Rattle.std.proofs.lemmas.Nat.{shr-shr, pow_pos, pow-add, mul-le, field_of, shr_high, mod_low, and_shr, and_mod, or_shr, or_mod, xor_shr, xor_mod}
+use Rattle.std.proofs.lemmas.Option.{same_Some}
+use Rattle.std.proofs.lemmas.Bool.{eqb-true, eq-eqb}
 use Rattle.std.proofs.Math.Pow.{mod-mod-pow}
 use Rattle.std.proofs.Math.Nat.{mul_comm, mul_assoc, mul-add, pow-suc, suc-mul}
-use Rattle.esi_base.specs.Bits.{bit_value, number_of, bits_of, same_bits}
+use Rattle.esi_base.specs.Bits.{bit_value, number_of, bits_of, zip_bits, same_bits, length-bits_of}
 
 double : (k : ℕ) → 2 ^ suc k ≡ 2 * 2 ^ k
 double k = pow-suc 2 k ∙ mul_comm (2 ^ k) 2
@@ -110,3 +113,101 @@ slice_range-bits_of width n low end h l =
 -- the test that two lists of bits are the same tells it
 pub same_bits-true : (xs ys : List Bool) → (same_bits xs ys ≡ true) ↔ (xs ≡ ys)
 same_bits-true = pointwise_decides booleans_Decides
+
+-- where an operation on numbers works bit by bit, so do the bits of its answer
+module _ (op : ℕ → ℕ → ℕ) (f : Bool → Bool → Bool) (lowest : (a b : ℕ) → (op a b % 2 == 1) ≡ f (a % 2 == 1) (b % 2 == 1)) (further : (a b : ℕ) → op a b / 2 ≡ op (a / 2) (b / 2)) where
+  bits_of-op : (width a b : ℕ) → bits_of width (op a b) ≡ zip_bits f (bits_of width a) (bits_of width b)
+  bits_of-op zero a b = refl
+  bits_of-op (suc width) a b =
+      ap (λ c. c ∷ bits_of width (op a b / 2)) (lowest a b)
+      ∙ ap (λ n. f (a % 2 == 1) (b % 2 == 1) ∷ bits_of width n) (further a b)
+      ∙ ap (λ bs. f (a % 2 == 1) (b % 2 == 1) ∷ bs) (bits_of-op width (a / 2) (b / 2))
+
+and_of_bits : (a b : ℕ) → a < 2 → b < 2 → (bit_and a b == 1) ≡ ((a == 1) && (b == 1))
+and_of_bits zero zero h l = refl
+and_of_bits zero (suc zero) h l = refl
+and_of_bits (suc zero) zero h l = refl
+and_of_bits (suc zero) (suc zero) h l = refl
+and_of_bits (suc (suc a)) b h l = absurd (omega arith)
+and_of_bits a (suc (suc b)) h l = absurd (omega arith)
+
+or_of_bits : (a b : ℕ) → a < 2 → b < 2 → (bit_or a b == 1) ≡ ((a == 1) || (b == 1))
+or_of_bits zero zero h l = refl
+or_of_bits zero (suc zero) h l = refl
+or_of_bits (suc zero) zero h l = refl
+or_of_bits (suc zero) (suc zero) h l = refl
+or_of_bits (suc (suc a)) b h l = absurd (omega arith)
+or_of_bits a (suc (suc b)) h l = absurd (omega arith)
+
+xor_of_bits : (a b : ℕ) → a < 2 → b < 2 → (bit_xor a b == 1) ≡ xor (a == 1) (b == 1)
+unfolding mathlib.Core.Bool.xor
+xor_of_bits zero zero h l = refl
+xor_of_bits zero (suc zero) h l = refl
+xor_of_bits (suc zero) zero h l = refl
+xor_of_bits (suc zero) (suc zero) h l = refl
+xor_of_bits (suc (suc a)) b h l = absurd (omega arith)
+xor_of_bits a (suc (suc b)) h l = absurd (omega arith)
+
+pub bits_of-and : (width a b : ℕ) → bits_of width (bit_and a b) ≡ zip_bits ◌&&◌ (bits_of width a) (bits_of width b)
+bits_of-and =
+    bits_of-op bit_and ◌&&◌
+    (λ a b. ap (λ n. n == 1) (and_mod a b 1) ∙ and_of_bits (a % 2) (b % 2) (omega arith) (omega arith))
+    (λ a b. and_shr a b 1)
+
+pub bits_of-or : (width a b : ℕ) → bits_of width (bit_or a b) ≡ zip_bits ◌||◌ (bits_of width a) (bits_of width b)
+bits_of-or =
+    bits_of-op bit_or ◌||◌
+    (λ a b. ap (λ n. n == 1) (or_mod a b 1) ∙ or_of_bits (a % 2) (b % 2) (omega arith) (omega arith))
+    (λ a b. or_shr a b 1)
+
+pub bits_of-xor : (width a b : ℕ) → bits_of width (bit_xor a b) ≡ zip_bits xor (bits_of width a) (bits_of width b)
+bits_of-xor =
+    bits_of-op bit_xor xor
+    (λ a b. ap (λ n. n == 1) (xor_mod a b 1) ∙ xor_of_bits (a % 2) (b % 2) (omega arith) (omega arith))
+    (λ a b. xor_shr a b 1)
+
+ones_further : (width : ℕ) → (2 ^ suc width - 1) / 2 ≡ 2 ^ width - 1
+ones_further width = omega (arith, double width, pow_pos width)
+
+ones_lowest : (width : ℕ) → (2 ^ suc width - 1) % 2 ≡ 1
+ones_lowest width = omega (arith, double width, pow_pos width)
+
+pub bits_of-ones : (width : ℕ) → bits_of width (2 ^ width - 1) ≡ replicate width true
+bits_of-ones zero = refl
+bits_of-ones (suc width) =
+    ap (λ n. (n == 1) ∷ bits_of width ((2 ^ suc width - 1) / 2)) (ones_lowest width)
+    ∙ ap (λ n. true ∷ bits_of width n) (ones_further width)
+    ∙ ap (λ bs. true ∷ bs) (bits_of-ones width)
+
+xor-true : (b : Bool) → xor b true ≡ not b
+unfolding mathlib.Core.Bool.xor
+xor-true true = refl
+xor-true false = refl
+
+pub zip_bits-xor_ones : (bits : List Bool) → zip_bits xor bits (replicate (length bits) true) ≡ map not bits
+zip_bits-xor_ones [] = refl
+zip_bits-xor_ones (b ∷ bs) = ap (λ c. c ∷ zip_bits xor bs (replicate (length bs) true)) (xor-true b) ∙ ap (λ cs. not b ∷ cs) (zip_bits-xor_ones bs)
+
+-- each bit of a number the other way
+pub bits_of-not : (width n : ℕ) → bits_of width (bit_xor n (2 ^ width - 1)) ≡ map not (bits_of width n)
+bits_of-not width n =
+    bits_of-xor width n (2 ^ width - 1)
+    ∙ ap (λ bs. zip_bits xor (bits_of width n) bs) (bits_of-ones width ∙ ap (λ k. replicate k true) (sym (length-bits_of width n)))
+    ∙ zip_bits-xor_ones (bits_of width n)
+
+pub length-zip_bits : (f : Bool → Bool → Bool) (xs ys : List Bool) → length xs ≡ length ys → length (zip_bits f xs ys) ≡ length xs
+length-zip_bits f [] ys h = refl
+length-zip_bits f (x ∷ xs) [] h = absurd (omega arith)
+length-zip_bits f (x ∷ xs) (y ∷ ys) h = ap suc (length-zip_bits f xs ys (omega arith))
+
+-- of two lists as long as each other the test is one of their numbers
+pub same_bits-number_of : (xs ys : List Bool) → length xs ≡ length ys → same_bits xs ys ≡ (number_of xs == number_of ys)
+same_bits-number_of xs ys h =
+    one_answer {P = xs ≡ ys} (same_bits xs ys) (number_of xs == number_of ys) (same_bits-true xs ys)
+    (λ t. same_from_number_of xs ys h (eqb-true (number_of xs) (number_of ys) t), λ e. eq-eqb (number_of xs) (number_of ys) (ap number_of e))
+
+-- a list of one bit is known by it
+pub one_bit : (bits : List Bool) (b : Bool) → length bits ≡ 1 → slice_get bits 0 ≡ Some b → bits ≡ b ∷ []
+one_bit [] b h e = absurd (omega arith)
+one_bit (c ∷ []) b h e = ap (λ d. d ∷ []) (same_Some c b e)
+one_bit (c ∷ d ∷ bits) b h e = absurd (omega arith)

@@ -4,15 +4,12 @@ use Rattle.std.proofs.Common.{sym, ◌∙◌, get_or, arith}
 use Rattle.std.proofs.lemmas.List.{ext_get_or}
 use Rattle.std.proofs.Math.Pow.{pow_mono}
 use Rattle.std.proofs.Math.Nat.{mod-eq_of_lt, lt_of_lt_of_le}
-use Rattle.esi_base.specs.Parts.{whole, part, parts, AreSmall, AreSmall-parts, AreSmall-from_get_or, length-parts, whole-parts, get_or-parts}
+use Rattle.esi_base.specs.Parts.{whole, part, parts, AreSmall, AreSmall-parts, length-parts, whole-parts, get_or-parts}
 
 -- sixteen limbs of 64 bits
 pub record IsLimbs (limbs : List ℕ) : Type 0 where
   pub count : length limbs ≡ 16
   pub small : AreSmall 64 limbs
-
-pub IsLimbs-from_get_or : (limbs : List ℕ) → length limbs ≡ 16 → ((k : ℕ) → get_or limbs k 0 < 2 ^ 64) → IsLimbs limbs
-IsLimbs-from_get_or limbs h g = record { count = h; small = AreSmall-from_get_or 64 limbs g }
 
 -- the lowest 1,024 bits of a number, as limbs
 unfoldable pub limbs_of : ℕ → List ℕ

@@ -46,7 +46,7 @@ parts-whole w (x ∷ xs) h =
     ∙ ap (λ n. x ∷ parts w (length xs) n) (rest_of_whole w x (whole w xs) h.0)
     ∙ ap (λ ys. x ∷ ys) (parts-whole w xs h.1)
 
-part-zero : (w n : ℕ) → part w n 0 ≡ n % 2 ^ w
+pub part-zero : (w n : ℕ) → part w n 0 ≡ n % 2 ^ w
 part-zero w n = let e : w * 0 ≡ 0 = omega arith in ap (λ k. n / 2 ^ k % 2 ^ w) e ∙ ap (λ k. k % 2 ^ w) (let d : n / 1 ≡ n = omega arith in d)
 
 part-suc : (w n k : ℕ) → part w n (suc k) ≡ part w (n / 2 ^ w) k

@@ -181,6 +181,82 @@ fn joined_words_are_cut_apart_again(rt: HostRuntime) {
 }
 
 #[test]
+fn words_are_taken_bit_by_bit(rt: HostRuntime) {
+    let first = Word::from_u128(128, 0xff00_0000_0000_0000_0ff0);
+    let second = Word::from_u128(128, 0x0ff0_0000_0000_0000_00ff);
+    assert_eq!(rt;
+        first.bit_and(&second),
+        Word::from_u128(128, 0x0f00_0000_0000_0000_00f0)
+    );
+    assert_eq!(rt;
+        first.bit_or(&second),
+        Word::from_u128(128, 0xfff0_0000_0000_0000_0fff)
+    );
+    assert_eq!(rt;
+        first.bit_xor(&second),
+        Word::from_u128(128, 0xf0f0_0000_0000_0000_0f0f)
+    );
+    assert_eq!(rt;
+        Word::from_u128(9, 0x1a5).bit_not(),
+        Word::from_u128(9, 0x5a)
+    );
+    assert_eq!(rt;
+        Word::zero(65).bit_not(),
+        Word::from_u128(65, 0x1_ffff_ffff_ffff_ffff)
+    );
+    let ones = Word::zero(1024).bit_not();
+    assert_eq!(rt;
+        (ones.octet(0), ones.octet(64), ones.octet(127)),
+        (255, 255, 255)
+    );
+    assert_eq!(rt; ones.bit_not(), Word::zero(1024));
+}
+
+#[test]
+fn words_are_compared_and_chosen(rt: HostRuntime) {
+    let yes = Word::from_u128(1, 1);
+    let no = Word::zero(1);
+    let first = Word::from_u128(65, 1 << 64);
+    assert_eq!(rt; first.equal(&Word::from_u128(65, 1 << 64)), yes);
+    assert_eq!(rt; first.equal(&Word::zero(65)), no);
+    assert_eq!(rt; yes.choose(&first, &Word::zero(65)), first);
+    assert_eq!(rt; no.choose(&first, &Word::zero(65)), Word::zero(65));
+    assert_eq!(rt; Word::from_u128(9, 7).less(&Word::from_u128(9, 8)), yes);
+    assert_eq!(rt; Word::from_u128(9, 8).less(&Word::from_u128(9, 8)), no);
+    let most = Word::from_u128(64, 0xffff_ffff_ffff_ffff);
+    assert_eq!(rt; Word::zero(64).less(&most), yes);
+    assert_eq!(rt; most.less(&Word::zero(64)), no);
+}
+
+#[test]
+fn sums_and_differences_stay_within_the_width(rt: HostRuntime) {
+    let one = Word::from_u128(1, 1);
+    assert_eq!(rt; one.plus(&one), Word::zero(1));
+    assert_eq!(rt; Word::zero(1).minus(&one), one);
+    let nine = Word::from_u128(9, 0x1ff);
+    assert_eq!(rt; nine.plus(&Word::from_u128(9, 1)), Word::zero(9));
+    assert_eq!(rt;
+        Word::from_u128(9, 0x100).plus(&Word::from_u128(9, 0xff)),
+        nine
+    );
+    assert_eq!(rt; Word::zero(9).minus(&Word::from_u128(9, 1)), nine);
+    assert_eq!(rt;
+        Word::from_u128(9, 3).minus(&Word::from_u128(9, 5)),
+        Word::from_u128(9, 0x1fe)
+    );
+    let most = Word::from_u128(64, 0xffff_ffff_ffff_ffff);
+    assert_eq!(rt;
+        most.plus(&most),
+        Word::from_u128(64, 0xffff_ffff_ffff_fffe)
+    );
+    assert_eq!(rt; Word::zero(64).minus(&most), Word::from_u128(64, 1));
+    assert_eq!(rt;
+        most.minus(&Word::from_u128(64, 0xffff_ffff_ffff_fff0)),
+        Word::from_u128(64, 15)
+    );
+}
+
+#[test]
 fn want_of_memory_becomes_a_stop(rt: HostRuntime) {
     assert_eq!(rt; Stop::from(NoMemory), Stop::NoMemory);
     let place = Place { line: 1, column: 8 };

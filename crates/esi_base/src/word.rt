@@ -1,10 +1,12 @@
 //! A word of bits: what the nets of a design carry.
-ghost use Rattle.std.specs.Prelude.{◌≡◌, ◌<◌, ◌≤◌, ◌^◌, Some, slice_get, length, replicate, false};
+ghost use Rattle.std.specs.Prelude.{◌≡◌, ◌<◌, ◌≤◌, ◌^◌, Some, slice_get, length, replicate, false, [], ◌∷◌};
 ghost use Rattle.esi_base.specs.Bits.{bits_of, number_of};
 ghost use Rattle.esi_base.specs.Parts.{part};
 
 use std::marker::Model;
 
+mod arithmetic;
+mod bitwise;
 mod comparison;
 mod limbs;
 mod pieces;
@@ -64,6 +66,13 @@ impl Word {
         limbs[0] = (value % (1 << LIMB_BITS)) as u64;
         limbs[1] = (value >> LIMB_BITS) as u64;
         Word { limbs, width }
+    }
+
+    /// The word of one bit that says whether a test holds.
+    fn of_test(test: bool) -> Word
+        ensures { result ≡ test ∷ [] }
+    {
+        Word::from_u128(1, u128::from(test))
     }
 
     /// How many bits the word has: 1 to 1,024.

@@ -9,35 +9,41 @@ use Rattle.esi_base.specs.declared.place.Stop.{Stop}
 use Rattle.esi_base.specs.declared.place.Stop.TheVariants.{Refused, NoMemory}
 use Rattle.cycle_rules.specs.Stimulated.{cycles_in, cycles_of_step}
 use Rattle.cycle_rules.specs.declared.step.Drive.{Drive}
+use Rattle.cycle_rules.specs.declared.step.Drive.TheVariants.{Ready as ready}
+use Rattle.channel_types.specs.declared.esi_type.EsiType.{EsiType}
 use Rattle.esi_text.specs.Stimulus.{cycles_of}
 use Rattle.esi_text.specs.declared.stimulus.Step.{Step}
-use Rattle.esi_text.specs.declared.stimulus.Step.TheVariants.{Put, Run}
+use Rattle.esi_text.specs.declared.stimulus.Step.TheVariants.{Put, Ready, Run}
 use Rattle.esi_cosim.specs.Ends.{Judges}
-use Rattle.esi_cosim.specs.Judged.{◌>>=◌, blame, judged, pipe_of, stimuli_of, ending_of, drive_of, drives_of, put_of, word_of}
+use Rattle.esi_cosim.specs.Judged.{◌>>=◌, Blamed, blame, judged, pipe_of, stimuli_of, ending_of, drive_of, drives_of, put_of, word_of}
 use Rattle.esi_cosim.specs.declared.judge.Input.{Input}
 
+-- what the stimulus makes of an input, behind a pipe that was accepted
+abbrev behind_pipe : List ℕ → EsiType × ℕ → Result Input Blamed
+behind_pipe stimulus pipe = blame 1 (stimuli_of pipe.0 stimulus) >>= λ ds. let input : Input = record { stages = pipe.1; steps = ds } in Ok input
+
 -- both texts are accepted
-pub judges_both : (design stimulus : List ℕ) (stages : ℕ) (steps : List Drive) → pipe_of design ≡ Ok stages → stimuli_of stimulus ≡ Ok steps
-    → judged design stimulus ≡ Ok (record { stages = stages; steps = steps })
+pub judges_both : (design stimulus : List ℕ) (pipe : EsiType × ℕ) (steps : List Drive) → pipe_of design ≡ Ok pipe → stimuli_of pipe.0 stimulus ≡ Ok steps
+    → judged design stimulus ≡ Ok (record { stages = pipe.1; steps = steps })
 unfolding judged
-judges_both design stimulus stages steps p q =
-    ap (λ r. blame 0 r >>= λ n. blame 1 (stimuli_of stimulus) >>= λ ds. let input : Input = record { stages = n; steps = ds } in Ok input) p
-    ∙ ap (λ r. blame 1 r >>= λ ds. let input : Input = record { stages = stages; steps = ds } in Ok input) q
+judges_both design stimulus pipe steps p q =
+    ap (λ r. blame 0 r >>= behind_pipe stimulus) p
+    ∙ ap (λ r. blame 1 r >>= λ ds. let input : Input = record { stages = pipe.1; steps = ds } in Ok input) q
 
 -- the design stops it
 pub judges_design : (design stimulus : List ℕ) (stop : Stop) → Reads (pipe_of design) (Err stop) → Judges (judged design stimulus) (Err (ending_of 0 stop))
 unfolding judged
-judges_design design stimulus (Refused refusal) p =
-    ap (λ r. blame 0 r >>= λ n. blame 1 (stimuli_of stimulus) >>= λ ds. let input : Input = record { stages = n; steps = ds } in Ok input) p
+judges_design design stimulus (Refused refusal) p = ap (λ r. blame 0 r >>= behind_pipe stimulus) p
 judges_design design stimulus NoMemory p = tt
 
 -- the stimulus stops it
-pub judges_stimulus : (design stimulus : List ℕ) (stages : ℕ) (stop : Stop) → pipe_of design ≡ Ok stages → Reads (stimuli_of stimulus) (Err stop) → Judges (judged design stimulus) (Err (ending_of 1 stop))
+pub judges_stimulus : (design stimulus : List ℕ) (pipe : EsiType × ℕ) (stop : Stop) → pipe_of design ≡ Ok pipe → Reads (stimuli_of pipe.0 stimulus) (Err stop)
+    → Judges (judged design stimulus) (Err (ending_of 1 stop))
 unfolding judged
-judges_stimulus design stimulus stages (Refused refusal) p q =
-    ap (λ r. blame 0 r >>= λ n. blame 1 (stimuli_of stimulus) >>= λ ds. let input : Input = record { stages = n; steps = ds } in Ok input) p
-    ∙ ap (λ r. blame 1 r >>= λ ds. let input : Input = record { stages = stages; steps = ds } in Ok input) q
-judges_stimulus design stimulus stages NoMemory p q = tt
+judges_stimulus design stimulus pipe (Refused refusal) p q =
+    ap (λ r. blame 0 r >>= behind_pipe stimulus) p
+    ∙ ap (λ r. blame 1 r >>= λ ds. let input : Input = record { stages = pipe.1; steps = ds } in Ok input) q
+judges_stimulus design stimulus pipe NoMemory p q = tt
 
 -- the cycles of steps that were judged
 abbrev cycles_of_result : Result Drive Refusal → ℕ
@@ -53,10 +59,12 @@ choice_cycles true good bad p q = p
 choice_cycles false good bad p q = q
 
 -- a step runs as many cycles as it says
-drive_cycles : (step : Step) (drive : Drive) → drive_of step ≡ Ok drive → cycles_of_step drive ≡ cycles_of step
-drive_cycles (Put name octets place octets_place) drive e =
-    sym (ap cycles_of_result e) ∙ choice_cycles (bytes_eq name (codes "in")) (put_of (word_of octets octets_place)) (Err (record { number = 224; place = place })) (put_cycles (word_of octets octets_place)) refl
-drive_cycles (Run cycles) drive e = sym (ap cycles_of_result e)
+drive_cycles : (ty : EsiType) (step : Step) (drive : Drive) → drive_of ty step ≡ Ok drive → cycles_of_step drive ≡ cycles_of step
+drive_cycles ty (Put name octets place octets_place) drive e =
+    sym (ap cycles_of_result e) ∙ choice_cycles (bytes_eq name (codes "in")) (put_of (word_of ty octets octets_place)) (Err (record { number = 224; place = place })) (put_cycles (word_of ty octets octets_place)) refl
+drive_cycles ty (Ready name on place) drive e =
+    sym (ap cycles_of_result e) ∙ choice_cycles (bytes_eq name (codes "out")) (Ok (ready 0 on)) (Err (record { number = 224; place = place })) refl refl
+drive_cycles ty (Run cycles) drive e = sym (ap cycles_of_result e)
 
 abbrev all_cycles : Result (List Drive) Refusal → ℕ
 all_cycles (Ok drives) = cycles_in drives
@@ -68,12 +76,12 @@ joined (Ok drive) (Ok ds) drives n m e p q = sym (ap all_cycles e) ∙ ap (λ k.
 joined (Ok drive) (Err refusal) drives n m e p q = absurd (cc e)
 joined (Err refusal) rest drives n m e p q = absurd (cc e)
 
-pub drives_cycles : (steps : List Step) (drives : List Drive) → drives_of steps ≡ Ok drives → cycles_in drives ≡ sum_by cycles_of steps
+pub drives_cycles : (ty : EsiType) (steps : List Step) (drives : List Drive) → drives_of ty steps ≡ Ok drives → cycles_in drives ≡ sum_by cycles_of steps
 unfolding drives_of
-drives_cycles [] drives e = sym (ap all_cycles e)
-drives_cycles (step ∷ steps) drives e =
-    joined (drive_of step) (drives_of steps) drives (cycles_of step) (sum_by cycles_of steps) e (λ drive p. drive_cycles step drive p) (λ ds q. drives_cycles steps ds q) ∙ sym (sum_by-cons cycles_of step steps)
+drives_cycles ty [] drives e = sym (ap all_cycles e)
+drives_cycles ty (step ∷ steps) drives e =
+    joined (drive_of ty step) (drives_of ty steps) drives (cycles_of step) (sum_by cycles_of steps) e (λ drive p. drive_cycles ty step drive p) (λ ds q. drives_cycles ty steps ds q) ∙ sym (sum_by-cons cycles_of step steps)
 
-pub few_cycles : (steps : List Step) (result : Result (List Drive) Stop) → Reads (drives_of steps) result → sum_by cycles_of steps ≤ 1000000 → IfOk result (λ drives. cycles_in drives ≤ 1000000)
-few_cycles steps (Ok drives) reads few = let same = drives_cycles steps drives reads in omega arith
-few_cycles steps (Err stop) reads few = tt
+pub few_cycles : (ty : EsiType) (steps : List Step) (result : Result (List Drive) Stop) → Reads (drives_of ty steps) result → sum_by cycles_of steps ≤ 1000000 → IfOk result (λ drives. cycles_in drives ≤ 1000000)
+few_cycles ty steps (Ok drives) reads few = let same = drives_cycles ty steps drives reads in omega arith
+few_cycles ty steps (Err stop) reads few = tt

@@ -11,8 +11,9 @@ use Rattle.esi_text.specs.Stimulus as stimulus
 use Rattle.esi_text.specs.Stimulus.{stimulus_of, steps_of}
 use Rattle.esi_text.specs.declared.stimulus.Stimulus.{Stimulus}
 use Rattle.small_text.specs.Lines.{counting_lines}
-use Rattle.esi_cosim.specs.Ends.{Judges, JudgesRead, JudgesTold, JudgesFirst, BlamesFirst, CanEnd}
-use Rattle.esi_cosim.specs.Judged.{◌>>=◌, Blamed, blame, judged, pipe_of, stages_of, stimuli_of, drives_of}
+use Rattle.esi_cosim.specs.Ends.{Judges, JudgesRead, JudgesTold, JudgesFirst, BlamesFirst, CanEnd, HasStages}
+use Rattle.esi_cosim.specs.Judged.{◌>>=◌, Blamed, blame, judged, pipe_of, pipe_in, stimuli_of, drives_of}
+use Rattle.channel_types.specs.declared.esi_type.EsiType.{EsiType}
 use Rattle.esi_cosim.specs.declared.ending.Ending.{Ending}
 use Rattle.esi_cosim.specs.declared.ending.Ending.TheVariants as endings
 use Rattle.esi_cosim.specs.declared.judge.Input.{Input}
@@ -41,8 +42,8 @@ stimulus_cut text =
 judged_cut : (design stim d s : List ℕ) → take (1048576 + 1) design ≡ d → take (4194304 + 1) stim ≡ s → judged d s ≡ judged design stim
 unfolding judged
 judged_cut design stim d s p q =
-    ap (λ r. blame 0 (r >>= stages_of) >>= λ n. blame 1 (stimuli_of s) >>= λ ds. let input : Input = record { stages = n; steps = ds } in Ok input) (sym (ap design_of p) ∙ design_cut design)
-    ∙ ap (λ r. blame 0 (pipe_of design) >>= λ n. blame 1 (r >>= λ read. drives_of read.steps) >>= λ ds. let input : Input = record { stages = n; steps = ds } in Ok input) (sym (ap stimulus_of q) ∙ stimulus_cut stim)
+    ap (λ r. blame 0 (r >>= pipe_in) >>= λ pipe. blame 1 (stimuli_of pipe.0 s) >>= λ ds. let input : Input = record { stages = pipe.1; steps = ds } in Ok input) (sym (ap design_of p) ∙ design_cut design)
+    ∙ ap (λ r. blame 0 (pipe_of design) >>= λ pipe. blame 1 (r >>= λ read. drives_of pipe.0 read.steps) >>= λ ds. let input : Input = record { stages = pipe.1; steps = ds } in Ok input) (sym (ap stimulus_of q) ∙ stimulus_cut stim)
 
 read_anyway : (meaning : Result Input Blamed) (result : Result Input Ending) → Judges meaning result → JudgesRead meaning result
 read_anyway meaning (Ok input) h = h
@@ -69,27 +70,37 @@ abbrev blamed_refusal : Refusal → Result Input Blamed → Refusal
 blamed_refusal other (Ok input) = other
 blamed_refusal other (Err blamed) = blamed.refusal
 
+-- the input of a pipe, behind the stimulus that is judged by its type
+abbrev behind : Result (EsiType × ℕ) Refusal → (EsiType → Result (List Drive) Refusal) → Result Input Blamed
+behind p q = blame 0 p >>= λ pipe. blame 1 (q pipe.0) >>= λ ds. let made : Input = record { stages = pipe.1; steps = ds } in Ok made
+
 -- the design that was accepted has the stages of the input
-first_ok : (p : Result ℕ Refusal) (q : Result (List Drive) Refusal) (input : Input) → (blame 0 p >>= λ n. blame 1 q >>= λ ds. let made : Input = record { stages = n; steps = ds } in Ok made) ≡ Ok input → p ≡ Ok input.stages
-first_ok (Ok n) (Ok ds) input e = cc
-first_ok (Ok n) (Err r) input e = absurd (cc e)
+first_ok : (p : Result (EsiType × ℕ) Refusal) (q : EsiType → Result (List Drive) Refusal) (input : Input) → behind p q ≡ Ok input → HasStages p input.stages
+first_ok (Ok pipe) q input e = of (q pipe.0) e
+  where
+    of : (r : Result (List Drive) Refusal) → (blame 1 r >>= λ ds. let made : Input = record { stages = pipe.1; steps = ds } in Ok made) ≡ Ok input → pipe.1 ≡ input.stages
+    of (Ok ds) e = cc
+    of (Err r) e = absurd (cc e)
 first_ok (Err r) q input e = absurd (cc e)
 
 -- a refusal that blames the first word is the design's, and one that blames the second comes behind a design that is accepted
-first_err : (p : Result ℕ Refusal) (q : Result (List Drive) Refusal) (word : ℕ) (refusal : Refusal)
-    → (blame 0 p >>= λ n. blame 1 q >>= λ ds. let made : Input = record { stages = n; steps = ds } in Ok made) ≡ Err (record { word = word; refusal = refusal }) → BlamesFirst p word refusal
-first_err (Ok n) (Ok ds) word refusal e = absurd (cc e)
-first_err (Ok n) (Err r) zero refusal e = let one : 1 ≡ 0 = ap blamed_word e in absurd (omega (arith, one))
-first_err (Ok n) (Err r) (suc word) refusal e = search rules
-first_err (Err r) q zero refusal e = ap (λ x. let made : Result ℕ Refusal = Err x in made) (ap (blamed_refusal r) e)
+first_err : (p : Result (EsiType × ℕ) Refusal) (q : EsiType → Result (List Drive) Refusal) (word : ℕ) (refusal : Refusal) → behind p q ≡ Err (record { word = word; refusal = refusal }) → BlamesFirst p word refusal
+first_err (Ok pipe) q zero refusal e = of (q pipe.0) e
+  where
+    of : (r : Result (List Drive) Refusal) → (blame 1 r >>= λ ds. let made : Input = record { stages = pipe.1; steps = ds } in Ok made) ≡ Err (record { word = zero; refusal = refusal })
+        → BlamesFirst {A = EsiType × ℕ} (Ok pipe) zero refusal
+    of (Ok ds) e = absurd (cc e)
+    of (Err r) e = let one : 1 ≡ 0 = ap blamed_word e in absurd (omega (arith, one))
+first_err (Ok pipe) q (suc word) refusal e = search rules
+first_err (Err r) q zero refusal e = ap (λ x. let made : Result (EsiType × ℕ) Refusal = Err x in made) (ap (blamed_refusal r) e)
 first_err (Err r) q (suc word) refusal e = let none : 0 ≡ suc word = ap blamed_word e in absurd (omega (arith, none))
 
 judges_first : (d s : List ℕ) (result : Result Input Ending) → Judges (judged d s) result → JudgesFirst (pipe_of d) result
 unfolding judged
-judges_first d s (Ok input) h = first_ok (pipe_of d) (stimuli_of s) input h
+judges_first d s (Ok input) h = first_ok (pipe_of d) (λ ty. stimuli_of ty s) input h
 judges_first d s (Err endings.Done) h = tt
 judges_first d s (Err endings.Usage) h = tt
-judges_first d s (Err (endings.Refused word refusal)) h = first_err (pipe_of d) (stimuli_of s) word refusal h
+judges_first d s (Err (endings.Refused word refusal)) h = first_err (pipe_of d) (λ ty. stimuli_of ty s) word refusal h
 judges_first d s (Err endings.ReadFault) h = tt
 judges_first d s (Err endings.WriteFault) h = tt
 judges_first d s (Err endings.NoMemory) h = tt
@@ -98,7 +109,7 @@ first_told : (design : Option (List ℕ)) (d s : List ℕ) (result : Result Inpu
     → IfSome design (λ x. JudgesFirst (pipe_of x) result)
 first_told None d s result p h = tt
 first_told (Some x) d s result p h =
-    subst (λ meaning. JudgesFirst (meaning >>= stages_of) result) (sym (ap design_of p) ∙ design_cut x) (judges_first d s result h)
+    subst (λ meaning. JudgesFirst (meaning >>= pipe_in) result) (sym (ap design_of p) ∙ design_cut x) (judges_first d s result h)
 
 -- a text that stayed was read as it is told
 pub read_same : (limit : ℕ) (before now : Option (List ℕ)) (octets : List ℕ) → ReadUpTo limit now octets → now ≡ before → ReadUpTo limit before octets

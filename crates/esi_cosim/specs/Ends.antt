@@ -6,6 +6,7 @@ use Rattle.esi_links.specs.Growth.{Grows, GrowsByFront}
 use Rattle.esi_links.specs.declared.stop.OutStop.{OutStop}
 use Rattle.esi_links.specs.declared.stop.OutStop.TheVariants as out
 use Rattle.esi_base.specs.declared.place.Refusal.{Refusal}
+use Rattle.channel_types.specs.declared.esi_type.EsiType.{EsiType}
 use Rattle.esi_cosim.specs.Judged.{Blamed, judged, pipe_of}
 use Rattle.esi_cosim.specs.Output.{simulation, output_of}
 use Rattle.esi_cosim.specs.declared.judge.Input.{Input}
@@ -75,13 +76,18 @@ JudgesRead meaning (Err endings.WriteFault) = ⊥
 JudgesRead meaning (Err endings.NoMemory) = Unit {0}
 
 -- What a refusal says of the design alone: the design is refused so, or it is not and the stimulus is.
-abbrev pub BlamesFirst : Result ℕ Refusal → ℕ → Refusal → Type 0
+abbrev pub BlamesFirst : {A : Type 0} → Result A Refusal → ℕ → Refusal → Type 0
 BlamesFirst design zero refusal = design ≡ Err refusal
 BlamesFirst design (suc word) refusal = IsOk design
 
+-- the design is a pipe of so many stages
+abbrev pub HasStages : Result (EsiType × ℕ) Refusal → ℕ → Type 0
+HasStages (Ok pipe) stages = pipe.1 ≡ stages
+HasStages (Err refusal) stages = ⊥
+
 -- what an answer says of the design alone
-abbrev pub JudgesFirst : Result ℕ Refusal → Result Input Ending → Type 0
-JudgesFirst design (Ok input) = design ≡ Ok input.stages
+abbrev pub JudgesFirst : Result (EsiType × ℕ) Refusal → Result Input Ending → Type 0
+JudgesFirst design (Ok input) = HasStages design input.stages
 JudgesFirst design (Err endings.Done) = Unit {0}
 JudgesFirst design (Err endings.Usage) = Unit {0}
 JudgesFirst design (Err (endings.Refused word refusal)) = BlamesFirst design word refusal
@@ -115,7 +121,7 @@ EndsJudged endings.NoMemory = ⊥
 -- The texts, where they are told, mean this input, or this refusal. What is told of the design alone is said of it alone.
 pub record Accepts (design stimulus : Option (List ℕ)) (input : Input) : Type 0 where
   pub accepted : IfSome design (λ d. IfSome stimulus (λ s. judged d s ≡ Ok input))
-  pub first : IfSome design (λ d. pipe_of d ≡ Ok input.stages)
+  pub first : IfSome design (λ d. HasStages (pipe_of d) input.stages)
 
 pub record Refuses (design stimulus : Option (List ℕ)) (word : ℕ) (refusal : Refusal) : Type 0 where
   pub blamed : word < 2

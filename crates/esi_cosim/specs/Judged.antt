@@ -1,7 +1,6 @@
 -- What a design and a stimulus ask of a simulation, and which of them is refused.
 use Rattle.std.specs.Prelude.{ℕ, ◌&&◌, nat_le, Bool, Result, Ok, Err, List, [], ◌∷◌, if◌then◌else◌, codes}
 use Rattle.std.specs.Str.{bytes_eq}
-use Rattle.esi_base.specs.Bits.{bits_of}
 use Rattle.esi_base.specs.declared.place.Place.{Place}
 use Rattle.esi_base.specs.declared.place.Refusal.{Refusal}
 use Rattle.esi_base.specs.declared.place.Stop.{Stop}
@@ -9,13 +8,16 @@ use Rattle.esi_base.specs.declared.place.Stop.TheVariants as stops
 use Rattle.esi_cosim.specs.declared.ending.Ending.{Ending}
 use Rattle.esi_cosim.specs.declared.ending.Ending.TheVariants as endings
 use Rattle.cycle_rules.specs.declared.step.Drive.{Drive}
-use Rattle.cycle_rules.specs.declared.step.Drive.TheVariants.{Put as put, Run as run}
+use Rattle.cycle_rules.specs.declared.step.Drive.TheVariants.{Put as put, Ready as ready, Run as run}
 use Rattle.esi_cosim.specs.declared.judge.Input.{Input}
-use Rattle.esi_text.specs.DesignPlaces.{design_of}
+use Rattle.bit_packing.specs.OctetRules.{judged as unpacked}
+use Rattle.bit_packing.specs.declared.octets.Unpacked.{Unpacked}
+use Rattle.channel_types.specs.declared.esi_type.EsiType.{EsiType}
+use Rattle.esi_text.specs.DesignPlaces.{Meaning, design_of}
+use Rattle.esi_text.specs.declared.design.tree.Number.{Number}
 use Rattle.esi_text.specs.Stimulus.{stimulus_of}
-use Rattle.esi_text.specs.declared.design.Design.{Design}
 use Rattle.esi_text.specs.declared.stimulus.Step.{Step}
-use Rattle.esi_text.specs.declared.stimulus.Step.TheVariants.{Put, Run}
+use Rattle.esi_text.specs.declared.stimulus.Step.TheVariants.{Put, Ready, Run}
 
 infixl 10 ◌>>=◌
 -- What stands on a value is refused where the value is.
@@ -24,40 +26,46 @@ abbrev pub ◌>>=◌ : {A B E : Type 0} → Result A E → (A → Result B E) �
 (Err e) >>= f = Err e
 
 -- A pipe has 1 to 64 stages.
-abbrev pub stages_of : Design → Result ℕ Refusal
-stages_of design =
-    if nat_le 1 design.pipe.stages.value && nat_le design.pipe.stages.value 64 then Ok design.pipe.stages.value
-    else Err (record { number = 312; place = design.pipe.stages.place })
+abbrev pub stages_in : Number → Result ℕ Refusal
+stages_in stages =
+    if nat_le 1 stages.value && nat_le stages.value 64 then Ok stages.value else Err (record { number = 312; place = stages.place })
 
--- The one octet is a value of `ui8`; any other count of octets is none.
-abbrev pub word_of : List ℕ → Place → Result (List Bool) Refusal
-word_of (octet ∷ []) place = Ok (bits_of 8 octet)
-word_of _ place = Err (record { number = 225; place = place })
+-- Octets that are a value of the type are its word; all others are none.
+abbrev pub worded : Place → Result (List Bool) Unpacked → Result (List Bool) Refusal
+worded place (Ok word) = Ok word
+worded place (Err cause) = Err (record { number = 225; place = place })
+
+abbrev pub word_of : EsiType → List ℕ → Place → Result (List Bool) Refusal
+word_of ty octets place = worded place (unpacked octets ty)
 
 abbrev pub put_of : Result (List Bool) Refusal → Result Drive Refusal
 put_of (Ok word) = Ok (put 0 word)
 put_of (Err refusal) = Err refusal
 
--- A pipe takes values at its endpoint `in` alone.
-abbrev pub drive_of : Step → Result Drive Refusal
-drive_of (Put name octets place octets_place) =
-    if bytes_eq name (codes "in") then put_of (word_of octets octets_place) else Err (record { number = 224; place = place })
-drive_of (Run cycles) = Ok (run cycles)
+-- A pipe takes values at its endpoint `in` alone, and has a switch at its endpoint `out` alone.
+abbrev pub drive_of : EsiType → Step → Result Drive Refusal
+drive_of ty (Put name octets place octets_place) =
+    if bytes_eq name (codes "in") then put_of (word_of ty octets octets_place) else Err (record { number = 224; place = place })
+drive_of ty (Ready name on place) = if bytes_eq name (codes "out") then Ok (ready 0 on) else Err (record { number = 224; place = place })
+drive_of ty (Run cycles) = Ok (run cycles)
 
 -- All steps, or the refusal of the first that is refused.
-unfoldable pub drives_of : List Step → Result (List Drive) Refusal
-drives_of [] = Ok []
-drives_of (step ∷ steps) = do
-  drive ← drive_of step
-  drives ← drives_of steps
+unfoldable pub drives_of : EsiType → List Step → Result (List Drive) Refusal
+drives_of ty [] = Ok []
+drives_of ty (step ∷ steps) = do
+  drive ← drive_of ty step
+  drives ← drives_of ty steps
   Ok (drive ∷ drives)
 
--- The stages of the pipe that a design text means, and the steps that a stimulus means for it.
-abbrev pub pipe_of : List ℕ → Result ℕ Refusal
-pipe_of text = design_of text >>= stages_of
+-- The type and the stages of the pipe that a design text means, and the steps that a stimulus means for it.
+abbrev pub pipe_in : Meaning → Result (EsiType × ℕ) Refusal
+pipe_in design = stages_in design.stages >>= λ stages. Ok (design.ty, stages)
 
-abbrev pub stimuli_of : List ℕ → Result (List Drive) Refusal
-stimuli_of text = stimulus_of text >>= λ stimulus. drives_of stimulus.steps
+abbrev pub pipe_of : List ℕ → Result (EsiType × ℕ) Refusal
+pipe_of text = design_of text >>= pipe_in
+
+abbrev pub stimuli_of : EsiType → List ℕ → Result (List Drive) Refusal
+stimuli_of ty text = stimulus_of text >>= λ stimulus. drives_of ty stimulus.steps
 
 -- A text is refused: which file's, as the place of its name among the command's words, from 0, and how.
 pub record Blamed : Type 0 where
@@ -71,9 +79,9 @@ blame word (Err refusal) = Err (record { word = word; refusal = refusal })
 -- The design is judged first, and then the stimulus.
 unfoldable pub judged : List ℕ → List ℕ → Result Input Blamed
 judged design stimulus = do
-  stages ← blame 0 (pipe_of design)
-  steps ← blame 1 (stimuli_of stimulus)
-  Ok (record { stages = stages; steps = steps })
+  pipe ← blame 0 (pipe_of design)
+  steps ← blame 1 (stimuli_of pipe.0 stimulus)
+  Ok (record { stages = pipe.1; steps = steps })
 
 -- how a command ends where a text at this word stops it
 abbrev pub ending_of : ℕ → Stop → Ending

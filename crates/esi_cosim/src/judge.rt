@@ -4,12 +4,15 @@ ghost use Rattle.std.specs.Str.{bytes_eq};
 ghost use Rattle.esi_base.specs.Reading.{Reads};
 ghost use Rattle.cycle_rules.specs.Stimulated.{cycles_in};
 ghost use Rattle.esi_cosim.specs.Ends.{Judges, CanEnd};
-ghost use Rattle.esi_cosim.specs.Judged.{pipe_of, stimuli_of, stages_of, drive_of, drives_of, word_of, ending_of, judged};
+ghost use Rattle.channel_types.specs.Types.{IsGoodType};
+ghost use Rattle.esi_cosim.specs.Judged.{pipe_of, stimuli_of, stages_in, drive_of, drives_of, word_of, ending_of, judged};
 
 use crate::ending::Ending;
+use bit_packing::from_octets;
 use cycle_rules::Drive;
 use esi_base::{List, Place, Refusal, Stop, Word};
-use esi_text::{Design, Step, read_design, read_stimulus};
+use esi_text::{Number, Step, read_design, read_stimulus};
+use esi_types::EsiType;
 use std::alloc::Global;
 
 /// The most stages of a pipe.
@@ -18,7 +21,11 @@ const MOST_STAGES: u128 = 64;
 /// The endpoint at which a pipe takes values.
 const ENTRANCE: &[u8] = b"in";
 
-/// What a simulation is given: a pipe of 1 to 64 stages, and the steps that drive it.
+/// The endpoint at which a pipe hands values out.
+const EXIT: &[u8] = b"out";
+
+/// What a simulation is given: a pipe of 1 to 64 stages, and the steps that drive it, whose words are
+/// values of its type.
 #[derive(Debug, Drop)]
 pub struct Input {
     /// How many stages the pipe has.
@@ -34,11 +41,11 @@ pub fn judge(alloc: Global, design: &[u8], stimulus: &[u8]) -> Result<Input, End
     ensures possible { CanEnd result }
     ensures cycles { IfOk result (λ input. cycles_in input.steps ≤ 1000000) }
 {
-    let stages = match judge_design(alloc, design) {
-        Ok(stages) => stages,
+    let (ty, stages) = match judge_design(alloc, design) {
+        Ok(pipe) => pipe,
         Err(stop) => return Err(blame(0, stop)),
     };
-    match judge_stimulus(alloc, stimulus) {
+    match judge_stimulus(alloc, &ty, stimulus) {
         Ok(steps) => Ok(Input { stages, steps }),
         Err(stop) => Err(blame(1, stop)),
     }
@@ -53,27 +60,30 @@ fn blame(word: u32, stop: Stop) -> Ending
     }
 }
 
-fn judge_design(alloc: Global, text: &[u8]) -> Result<u32, Stop>
-    ensures { Reads (pipe_of text.now) result }
+/// The type that the design's pipe carries, and how many stages it has.
+fn judge_design(alloc: Global, text: &[u8]) -> Result<(EsiType, u32), Stop>
+    ensures reads { Reads (pipe_of text.now) result }
+    ensures good { IfOk result (λ pipe. IsGoodType pipe.0) }
 {
     let design = read_design(alloc, text)?;
-    stages(&design)
+    let stages = stages(design.pipe.stages)?;
+    Ok((design.pipe.ty, stages))
 }
 
-fn judge_stimulus(alloc: Global, text: &[u8]) -> Result<List<Drive>, Stop>
-    ensures reads { Reads (stimuli_of text.now) result }
+fn judge_stimulus(alloc: Global, ty: &EsiType, text: &[u8]) -> Result<List<Drive>, Stop>
+    requires { IsGoodType ty.now }
+    ensures reads { Reads (stimuli_of ty.now text.now) result }
     ensures cycles { IfOk result (λ steps. cycles_in steps ≤ 1000000) }
 {
     let stimulus = read_stimulus(alloc, text)?;
-    drives(alloc, stimulus.steps.as_slice())
+    drives(alloc, ty, stimulus.steps.as_slice())
 }
 
-/// How many stages the design's pipe has: 1 to 64, else it is refused with 312 at the number.
-fn stages(design: &Design) -> Result<u32, Stop>
-    ensures reads { Reads (stages_of design.now) result }
+/// How many stages a pipe has: 1 to 64, else it is refused with 312 at the number.
+fn stages(stages: Number) -> Result<u32, Stop>
+    ensures reads { Reads (stages_in stages) result }
     ensures bounds { IfOk result (λ stages. stages ≤ 64) }
 {
-    let stages = design.pipe.stages;
     if 1 <= stages.value && stages.value <= MOST_STAGES {
         Ok(stages.value as u32)
     } else {
@@ -84,14 +94,16 @@ fn stages(design: &Design) -> Result<u32, Stop>
     }
 }
 
-/// What all steps of a stimulus do to a pipe of octets: 224 at a name other than `in`, 225 at octets
-/// that are not one, the first of them.
-fn drives(alloc: Global, steps: &[Step]) -> Result<List<Drive>, Stop>
-    ensures { Reads (drives_of steps.now) result }
+/// What all steps of a stimulus do to a pipe of values of the type: 224 at a name other than `in` of
+/// a put and other than `out` of a switch, 225 at octets that are no value of the type, the first of
+/// them.
+fn drives(alloc: Global, ty: &EsiType, steps: &[Step]) -> Result<List<Drive>, Stop>
+    requires { IsGoodType ty.now }
+    ensures { Reads (drives_of ty.now steps.now) result }
 {
     let mut drives = List::new(alloc);
     for step in steps {
-        let drive = drive(step)?;
+        let drive = drive(ty, step)?;
         if drives.push(drive).is_err() {
             return Err(Stop::NoMemory);
         }
@@ -99,8 +111,9 @@ fn drives(alloc: Global, steps: &[Step]) -> Result<List<Drive>, Stop>
     Ok(drives)
 }
 
-fn drive(step: &Step) -> Result<Drive, Stop>
-    ensures { Reads (drive_of step.now) result }
+fn drive(ty: &EsiType, step: &Step) -> Result<Drive, Stop>
+    requires { IsGoodType ty.now }
+    ensures { Reads (drive_of ty.now step.now) result }
 {
     match step {
         Step::Put {
@@ -110,23 +123,38 @@ fn drive(step: &Step) -> Result<Drive, Stop>
             octets_place,
         } => {
             if name.as_slice() != ENTRANCE {
-                return Err(Stop::Refused(Refusal {
-                    number: 224,
-                    place: *place,
-                }));
+                return Err(unknown_name(*place));
             }
-            let word = word(octets.as_slice(), *octets_place)?;
+            let word = word(octets.as_slice(), ty, *octets_place)?;
             Ok(Drive::Put { channel: 0, word })
+        }
+        Step::Ready { name, on, place } => {
+            if name.as_slice() != EXIT {
+                return Err(unknown_name(*place));
+            }
+            Ok(Drive::Ready {
+                channel: 0,
+                on: *on,
+            })
         }
         Step::Run { cycles } => Ok(Drive::Run { cycles: *cycles }),
     }
 }
 
-fn word(octets: &[u8], place: Place) -> Result<Word, Stop>
-    ensures { Reads (word_of octets.now place) result }
+/// The refusal of a name that is no endpoint on the side that is meant.
+fn unknown_name(place: Place) -> Stop
+    ensures { result ≡ Stop.Refused (record { number = 224; place = place }) }
 {
-    match octets {
-        [octet] => Ok(Word::from_u128(8, u128::from(*octet))),
-        _ => Err(Stop::Refused(Refusal { number: 225, place })),
+    Stop::Refused(Refusal { number: 224, place })
+}
+
+/// The word of octets that are a value of the type.
+fn word(octets: &[u8], ty: &EsiType, place: Place) -> Result<Word, Stop>
+    requires { IsGoodType ty.now }
+    ensures { Reads (word_of ty.now octets.now place) result }
+{
+    match from_octets(octets, ty) {
+        Ok(word) => Ok(word),
+        Err(_) => Err(Stop::Refused(Refusal { number: 225, place })),
     }
 }

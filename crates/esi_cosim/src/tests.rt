@@ -6,6 +6,7 @@ use crate::{Cause, Outcome, Told, run};
 use esi_base::{List, NoMemory, Octets, Place, Refusal};
 use esi_links::{Files, MemoryFiles, MemorySink, OutStop, Sink, SureFiles, SureLinks, SureSink};
 use std::alloc::Global;
+use std::fmt::Write;
 use std::process::Abort;
 use std::test::Fail;
 
@@ -133,11 +134,11 @@ fn simulates_and_refuses(rt: HostRuntime) -> Result<(), Fail> {
             err: b"refused design 219 1:8\n",
         },
         Row {
-            design: PIPE,
-            stimulus: b"ready out 0",
+            design: b"esi 1; pipe array<ui512, 3> stages 65;",
+            stimulus: b"",
             status: 2,
             out: b"",
-            err: b"refused stim 219 1:1\n",
+            err: b"refused design 101 1:13\n",
         },
         Row {
             design: PIPE,
@@ -171,6 +172,108 @@ fn simulates_and_refuses(rt: HostRuntime) -> Result<(), Fail> {
     for row in &rows {
         check(&rt, row)?;
     }
+    Ok(())
+}
+
+/// A row with a stimulus that is accepted.
+fn accepted(design: &'static [u8], stimulus: &'static [u8], out: &'static [u8]) -> Row {
+    Row {
+        design,
+        stimulus,
+        status: 0,
+        out,
+        err: b"",
+    }
+}
+
+/// A row with a text that is refused.
+fn refused(design: &'static [u8], stimulus: &'static [u8], err: &'static [u8]) -> Row {
+    Row {
+        design,
+        stimulus,
+        status: 2,
+        out: b"",
+        err,
+    }
+}
+
+const PAIRS: &[u8] = b"esi 1; pipe struct<a: ui8, b: ui8> stages 1;";
+
+const NINE: &[u8] = b"esi 1; pipe ui9 stages 1;";
+
+const VOID: &[u8] = b"esi 1; pipe void stages 1;";
+
+#[test]
+fn pipes_carry_values_of_every_type(rt: HostRuntime) -> Result<(), Fail> {
+    let rows = [
+        accepted(
+            PAIRS,
+            b"put in 0503\nrun 2\n",
+            b"got 1 out 0503\ndone cycles 2 taken 1 handed 1\n",
+        ),
+        refused(PAIRS, b"put in 05", b"refused stim 225 1:8\n"),
+        accepted(
+            NINE,
+            b"put in 0800\nput in ff01\nrun 4\n",
+            b"got 1 out 0800\ngot 2 out ff01\ndone cycles 4 taken 2 handed 2\n",
+        ),
+        refused(NINE, b"put in 0802", b"refused stim 225 1:8\n"),
+        refused(NINE, b"put in 08", b"refused stim 225 1:8\n"),
+        accepted(
+            VOID,
+            b"put in 00\nrun 2\n",
+            b"got 1 out 00\ndone cycles 2 taken 1 handed 1\n",
+        ),
+        refused(VOID, b"put in 01", b"refused stim 225 1:8\n"),
+        refused(VOID, b"put in 02", b"refused stim 225 1:8\n"),
+        refused(
+            b"esi 1; pipe struct<a: ui8, a: ui8> stages 1;",
+            b"",
+            b"refused design 102 1:13\n",
+        ),
+    ];
+    for row in &rows {
+        check(&rt, row)?;
+    }
+    Ok(())
+}
+
+#[test]
+fn a_switch_holds_values_back(rt: HostRuntime) -> Result<(), Fail> {
+    let rows = [
+        accepted(
+            PIPE,
+            b"ready out 0\nput in 07\nrun 3\nready out 1\nrun 2\n",
+            b"got 3 out 07\ndone cycles 5 taken 1 handed 1\n",
+        ),
+        refused(PIPE, b"ready in 0", b"refused stim 224 1:7\n"),
+        refused(PIPE, b"ready out 2", b"refused stim 223 1:11\n"),
+        refused(PIPE, b"ready out", b"refused stim 222 1:1\n"),
+    ];
+    for row in &rows {
+        check(&rt, row)?;
+    }
+    Ok(())
+}
+
+#[test]
+fn with_the_switch_off_rings_and_stages_fill_up(rt: HostRuntime) -> Result<(), Fail> {
+    let alloc = rt.alloc();
+    let mut stimulus = String::from_str(alloc, "ready out 0\n")?;
+    for octet in 0..40u8 {
+        write!(stimulus, "put in {octet:02x}\n")?;
+    }
+    stimulus.push_str("run 60\n")?;
+    let mut files = files(alloc, PIPE, stimulus.as_str().as_bytes(), &[])?;
+    let mut out = sink(alloc, &[])?;
+    let mut err = sink(alloc, &[])?;
+    let words = ["sim", "design", "stim"];
+    let outcome = run_words(alloc, &words, &mut files, &mut out, &mut err)?;
+    assert_eq!(rt; outcome.status, 0);
+    assert_eq!(rt;
+        out.written(),
+        b"done cycles 60 taken 36 handed 0\n".as_slice()
+    );
     Ok(())
 }
 

@@ -11,7 +11,7 @@ use Rattle.small_text.specs.Lines.{Part, Line}
 use Rattle.small_text.specs.Numbers.{number_of}
 use Rattle.small_text.specs.Hexadecimal.{octets_of}
 use Rattle.esi_text.specs.declared.stimulus.Step.{Step}
-use Rattle.esi_text.specs.Stimulus.{◌>>=◌, put_of, run_of, put_step, run_step, step_of, cycles_of, steps_of}
+use Rattle.esi_text.specs.Stimulus.{◌>>=◌, put_of, switch_of, ready_of, run_of, put_step, ready_step, run_step, step_of, cycles_of, steps_of}
 
 pub tells : (b : Bool) → (b ≡ true) ⊎ (b ≡ false)
 tells true = inl refl
@@ -63,6 +63,10 @@ bounded_put_of : (lines cycles : ℕ) (line : Line) (name digits : Part) (read :
 bounded_put_of lines cycles line name digits None few low = tt
 bounded_put_of lines cycles line name digits (Some octets) few low = (few, omega arith)
 
+bounded_ready_of : (lines cycles : ℕ) (line : Line) (name digit : Part) (read : Option Bool) → lines < 65536 → cycles ≤ 1000000 → Bounded lines cycles (ready_of line name digit read)
+bounded_ready_of lines cycles line name digit None few low = tt
+bounded_ready_of lines cycles line name digit (Some on) few low = (few, omega arith)
+
 bounded_run_of : (lines cycles : ℕ) (line : Line) (digits : Part) (read : Option ℕ) → lines < 65536 → Bounded lines cycles (run_of cycles line digits read)
 bounded_run_of lines cycles line digits None few = tt
 bounded_run_of lines cycles line digits (Some more) few =
@@ -81,6 +85,16 @@ bounded_put lines cycles line (a ∷ b ∷ []) low =
     ]
 bounded_put lines cycles line (a ∷ b ∷ c ∷ others) low = tt
 
+bounded_ready : (lines cycles : ℕ) (line : Line) (others : List Part) → cycles ≤ 1000000 → Bounded lines cycles (ready_step lines line others)
+bounded_ready lines cycles line [] low = tt
+bounded_ready lines cycles line (a ∷ []) low = tt
+bounded_ready lines cycles line (a ∷ b ∷ []) low =
+    elim (tells (nat_le 65536 lines)) [
+      | inl e ↦ rw e tt
+      | inr e ↦ rw e (bounded_ready_of lines cycles line a b (switch_of b.octets) (grind (arith, nat_tests)) low)
+    ]
+bounded_ready lines cycles line (a ∷ b ∷ c ∷ others) low = tt
+
 bounded_run : (lines cycles : ℕ) (line : Line) (others : List Part) → Bounded lines cycles (run_step lines cycles line others)
 bounded_run lines cycles line [] = tt
 bounded_run lines cycles line (a ∷ []) =
@@ -95,9 +109,12 @@ unfolding step_of
 bounded lines cycles line low =
     elim (tells (bytes_eq line.word.octets (codes "put"))) [
       | inl p ↦ rw p (bounded_put lines cycles line line.others low)
-      | inr p ↦ elim (tells (bytes_eq line.word.octets (codes "run"))) [
-        | inl r ↦ rw (p, r) (bounded_run lines cycles line line.others)
-        | inr r ↦ rw (p, r) tt
+      | inr p ↦ elim (tells (bytes_eq line.word.octets (codes "ready"))) [
+        | inl y ↦ rw (p, y) (bounded_ready lines cycles line line.others low)
+        | inr y ↦ elim (tells (bytes_eq line.word.octets (codes "run"))) [
+          | inl r ↦ rw (p, y, r) (bounded_run lines cycles line line.others)
+          | inr r ↦ rw (p, y, r) tt
+        ]
       ]
     ]
 

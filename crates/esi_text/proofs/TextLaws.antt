@@ -14,13 +14,13 @@ use Rattle.small_text.specs.Lines.{Part, Line, counting_lines}
 use Rattle.small_text.specs.LineLaws.{PartsAscend, each_ascends}
 use Rattle.esi_text.specs.declared.stimulus.Stimulus.{Stimulus}
 use Rattle.esi_text.specs.declared.stimulus.Step.{Step}
-use Rattle.esi_text.specs.declared.stimulus.Step.TheVariants.{Put, Run}
+use Rattle.esi_text.specs.declared.stimulus.Step.TheVariants.{Put, Ready, Run}
 use Rattle.esi_text.specs.Stimulus.{◌>>=◌, step_of, cycles_of, steps_of, stimulus_of, too_long_refusal}
 use Rattle.esi_text.specs.StimulusLaws.{StepOf, cycles_in, IsStimulus, Breaks, IsGood, AllGood, NoLater, FirstBreak, IfRefused}
-use Rattle.esi_text.specs.StimulusLaws.Breaks.{not_built, unknown, miscounted, no_octets, no_number, passes}
+use Rattle.esi_text.specs.StimulusLaws.Breaks.{unknown, miscounted, no_octets, no_switch, no_number, passes}
 use Rattle.esi_text.proofs.StepLemmas.{tells, with_step, steps_ok, steps_err}
 use Rattle.esi_text.proofs.LineProofs.{Read, Told, Explains, sum_with}
-use Rattle.esi_text.proofs.LineCases.{explain}
+use Rattle.esi_text.proofs.LineCases.{switch_whole, explain}
 
 -- a line in the lines that are left which tells the first break
 record StopsIn (before rest : List Line) (refusal : Refusal) : Type 0 where
@@ -70,6 +70,9 @@ unfolding step_of
 step_whole lines cycles line (Put name octets place octets_place) h few low =
     let e : nat_le 65536 lines ≡ false = grind (arith, nat_tests) in
     rw (h.word, h.parts, e, h.octets_are, h.name_is, h.place_is, h.octets_place_is) refl
+step_whole lines cycles line (Ready name on place) h few low =
+    let e : nat_le 65536 lines ≡ false = grind (arith, nat_tests) in
+    rw (h.word, h.parts, e, switch_whole _ on h.switch_is, h.name_is, h.place_is) refl
 step_whole lines cycles line (Run more) h few low =
     let e : nat_le 65536 lines ≡ false = grind (arith, nat_tests) in
     let f : nat_lt 1000000 (cycles + more) ≡ false = grind (arith, nat_tests) in
@@ -130,10 +133,10 @@ pub refused_first : (text : List ℕ) (refusal : Refusal) → length text ≤ 41
 refused_first text refusal short is = refused_from text refusal (steps_of 0 0 (counting_lines text)) (all_lines text) (sym (short_is text short) ∙ is)
 
 not_210 : (before : List Line) (line : Line) (number : ℕ) (part : Part) → Breaks before line number part → number ≡ 210 → ⊥
-not_210 before line number part (not_built h) e = omega arith
 not_210 before line number part (unknown h) e = omega arith
 not_210 before line number part (miscounted h) e = omega arith
 not_210 before line number part (no_octets p h) e = omega arith
+not_210 before line number part (no_switch p h) e = omega arith
 not_210 before line number part (no_number p h) e = omega arith
 not_210 before line number part (passes h) e = omega arith
 

@@ -1,99 +1,83 @@
 -- The reader of designs reads exactly the grammar.
-use Rattle.std.proofs.Common.{◌≡◌, ℕ, Bool, true, false, cond, eqb, List, [], ◌∷◌, Ok, Err, refl, ◌||◌, codes}
-use Rattle.std.specs.Str.{bytes_eq}
-use Rattle.grammar_law.specs.Rule.{Rule, Tree, ◌⟫◌}
-use Rattle.grammar_law.specs.Rule.Tree.{leaf}
-use Rattle.grammar_law.specs.Kinds.{among, first, second, is_plain}
-use Rattle.grammar_law.specs.Parse.{parse}
-use Rattle.grammar_law.specs.Parse.Halt.{unwanted}
+use Rattle.std.proofs.Common.{◌≡◌, ℕ, true, false, [], ◌∷◌, refl, ◌∙◌, ◌==◌}
+use Rattle.grammar_law.specs.Lexemes.{Lexeme, Lexemes}
+use Rattle.grammar_law.specs.Rule.{Kinds, Rule, Tree, ◌⟫◌}
+use Rattle.grammar_law.specs.Kinds.{first, second, is_plain}
 use Rattle.grammar_law.specs.Looser.{no_judge}
-use Rattle.grammar_law.specs.Nested.{shut}
-use Rattle.grammar_law.specs.Readers.{Reader, pure, ◌>>=◌, ◌>>◌}
-use Rattle.grammar_law.specs.Bridge.{Sees, seen, leaf_by, told_so, took_seen, map_seen, seq_seen}
+use Rattle.grammar_law.specs.Readers.{Reader, pure, ◌>>◌, took, took_any}
+use Rattle.grammar_law.specs.Bridge.{Sees, AreTold, told_so, took_seen, any_took_seen, map_seen, seq_seen}
 use Rattle.esi_lex.specs.declared.token.Token.{Token}
-use Rattle.esi_lex.specs.declared.token.Token.TheVariants.{Word, TypeWord, Number, Sign, Faulty, End}
-use Rattle.esi_lex.specs.declared.token.Class.TheVariants.{Unsigned, Signed, Plain}
-use Rattle.esi_lex.specs.Tokens.{Lexeme}
-use Rattle.esi_text.specs.declared.design.kind.Kind.{Kind}
-use Rattle.esi_text.specs.declared.design.kind.Kind.TheVariants.{Esi, One, OtherNumber, Semicolon, Pipe, OctetType, Stages, Item, OtherType, Name, OtherSign}
-use Rattle.esi_text.specs.DesignKinds.{code, word_kind}
-use Rattle.esi_text.specs.DesignReading.{expect, number, pipe}
-use Rattle.esi_text.specs.DesignGrammar.{design_grammar, design_rule, token, any_number, number_in, stages_in}
+use Rattle.design_tokens.specs.declared.kind.Kind.{Kind}
+use Rattle.design_tokens.specs.declared.kind.Kind.TheVariants.{Great, Esi, One, Semicolon, Pipe, Stages}
+use Rattle.design_tokens.specs.Kinds.{code, numbers, unwanted, word_kind, member_word_kind, statement_word_kind, last_word_kind}
+use Rattle.design_tokens.specs.Grammar.{token_grammar, expect, number, number_in}
+use Rattle.channel_types.specs.TypeGrammar.{types, token, a_type, end_in, type_of}
+use Rattle.type_reader.specs.TypeReading.{type_at}
+use Rattle.type_reader.specs.TypeLaw.{env, type_seen, told_alike}
+use Rattle.esi_text.specs.DesignReading.{pipe, design}
+use Rattle.esi_text.specs.DesignGrammar.{design_rule, pipe_rule, any_number, number_at, pipe_in, design_in}
 
 -- one token decides the rule of designs
-pub is_plain_design : is_plain design_grammar design_rule ≡ true
-unfolding word_kind
+pub is_plain_design : is_plain types design_rule ≡ true
+unfolding word_kind member_word_kind statement_word_kind last_word_kind
 is_plain_design = refl
 
--- The do-block reads what the law's reader of the rule does, and has the value of its tree.
-abbrev pub IsRead : {A : Type 0} → Reader Token A → (Tree Token → A) → Rule → Type 0
-IsRead read value r = Sees design_grammar no_judge (shut design_grammar) read value r []
+-- the readers of one token are told with the kinds of every grammar of designs
+took_same : {A : Type 0} (wanted : Kinds) (k : ℕ) (view : Lexeme Token → A) (ts : Lexemes Token) → took token_grammar wanted k view ts ≡ took types wanted k view ts
+unfolding took
+took_same wanted k view ts = refl
 
--- one token of a kind
-token_seen : (wanted : Kind) → eqb 0 (code wanted) ≡ false → IsRead (expect wanted) (leaf_by design_grammar (λ x. tt)) (token wanted)
-token_seen wanted no_end = took_seen design_grammar no_judge (shut design_grammar) (code wanted ∷ []) [] (code wanted) (λ x. tt) told_so no_end
+any_same : {A : Type 0} (wanted ks : Kinds) (view : Lexeme Token → A) (ts : Lexemes Token) → took_any token_grammar wanted ks view ts ≡ took_any types wanted ks view ts
+unfolding took_any
+any_same wanted ks view ts = refl
 
--- a token of a kind, and what follows
-then_seen : {A : Type 0} {s : Rule} {next : Reader Token A} {f : Tree Token → A} (wanted : Kind) → eqb 0 (code wanted) ≡ false → IsRead next f s
-    → IsRead (expect wanted >> next) (λ t. f (second t)) (token wanted ⟫ s)
-then_seen {A} {s} {next} {f} wanted no_end e = seq_seen design_grammar no_judge (shut design_grammar) (λ a. next) (λ t. f (second t)) (token_seen wanted no_end) (λ t. e)
+-- any number is told as the greatest ones are
+numbers_told : AreTold types (code Great ∷ []) numbers
+unfolding unwanted
+numbers_told = told_alike (code Great ∷ []) numbers (λ k. refl)
 
--- the last token
-last_seen : {A : Type 0} (wanted : Kind) (x : A) → eqb 0 (code wanted) ≡ false → IsRead (expect wanted >> pure x) (λ t. x) (token wanted)
-last_seen wanted x no_end = map_seen design_grammar no_judge (shut design_grammar) (λ a. x) (token_seen wanted no_end)
+-- in a design types may be open to so many levels
+module _ (d : ℕ) where
+  -- the do-block reads what the law's reader of the rule does, and has the value of its tree
+  abbrev IsRead : {A : Type 0} → Reader Token A → (Tree Token → A) → Rule → Type 0
+  IsRead read value r = Sees types no_judge (env d) read value r []
 
--- a kind that no number has
-record IsNoNumber (kind : Kind) : Type 0 where
-  fact : among (2 ∷ (3 ∷ [])) (code kind) ≡ false
+  -- one token of a kind
+  token_seen : (wanted : Kind) → (0 == code wanted) ≡ false → IsRead (expect wanted) end_in (token wanted)
+  token_seen wanted no_end = record {
+    at = λ ts. took_same (code wanted ∷ []) (code wanted) (λ x. x.0.1) ts
+        ∙ (took_seen types no_judge (env d) (code wanted ∷ []) [] (code wanted) (λ x. x.0.1) told_so no_end).at ts;
+  }
 
--- a choice of two such kinds
-neither : (b : Bool) (x y : Kind) → IsNoNumber x → IsNoNumber y → IsNoNumber (cond b x y)
-neither true x y h k = h
-neither false x y h k = k
+  -- any number
+  number_seen : IsRead number number_at any_number
+  number_seen = record {
+    at = λ ts. any_same (code Great ∷ []) numbers (λ x. (number_in x.1, x.0.0)) ts
+        ∙ (any_took_seen types no_judge (env d) (code Great ∷ []) [] numbers (λ x. (number_in x.1, x.0.0)) numbers_told refl).at ts;
+  }
 
--- a choice of the kinds of words
-choices : (a b c d e : Bool) → IsNoNumber (cond a Esi (cond b Pipe (cond c Stages (cond d Item (cond e OtherType Name)))))
-choices a b c d e =
-    let name : IsNoNumber Name = record { fact = refl } in
-    let other : IsNoNumber OtherType = record { fact = refl } in
-    let item : IsNoNumber Item = record { fact = refl } in
-    let stages : IsNoNumber Stages = record { fact = refl } in
-    let pipe_word : IsNoNumber Pipe = record { fact = refl } in
-    let esi : IsNoNumber Esi = record { fact = refl } in
-    neither a Esi _ esi (neither b Pipe _ pipe_word (neither c Stages _ stages (neither d Item _ item (neither e OtherType Name other name))))
+  -- a token of a kind, and what follows
+  then_seen : {A : Type 0} {s : Rule} {next : Reader Token A} {f : Tree Token → A} (wanted : Kind) → (0 == code wanted) ≡ false → IsRead next f s
+      → IsRead (expect wanted >> next) (λ t. f (second t)) (token wanted ⟫ s)
+  then_seen {A} {s} {next} {f} wanted no_end e = seq_seen types no_judge (env d) (λ a. next) (λ t. f (second t)) (token_seen wanted no_end) (λ t. e)
 
--- no word is a number
-word_no_number : (w : List ℕ) → IsNoNumber (word_kind w)
-unfolding word_kind
-word_no_number w =
-    choices (bytes_eq w (codes "esi")) (bytes_eq w (codes "pipe")) (bytes_eq w (codes "stages"))
-    (bytes_eq w (codes "bundle") || bytes_eq w (codes "service") || bytes_eq w (codes "module") || bytes_eq w (codes "top"))
-    (bytes_eq w (codes "void") || bytes_eq w (codes "struct") || bytes_eq w (codes "array"))
+  -- the last token
+  last_seen : {A : Type 0} (wanted : Kind) (x : A) → (0 == code wanted) ≡ false → IsRead (expect wanted >> pure x) (λ t. x) (token wanted)
+  last_seen wanted x no_end = map_seen types no_judge (env d) (λ a. x) (token_seen wanted no_end)
 
--- the reader of a number reads what the law's reader does
-number_each : (ts : List Lexeme) → number ts ≡ seen design_grammar number_in (parse design_grammar no_judge (shut design_grammar) any_number [] ts)
-unfolding number
-number_each [] = refl
-number_each ((span, Number n) ∷ ts) = by_test (eqb n 1)
-  where
-    by_test : (b : Bool) → Ok ((n, span.0), ts) ≡ seen design_grammar number_in (cond (among (2 ∷ (3 ∷ [])) (code (cond b One OtherNumber))) (Ok (leaf (span, Number n), ts)) (Err (unwanted (2 ∷ (3 ∷ [])) ((span, Number n) ∷ ts))))
-    by_test true = refl
-    by_test false = refl
-number_each ((span, Word w) ∷ ts) = rw (word_no_number w).fact refl
-number_each ((span, TypeWord Unsigned n) ∷ ts) = let e : IsNoNumber (cond (eqb n 8) OctetType OtherType) = neither (eqb n 8) OctetType OtherType (record { fact = refl }) (record { fact = refl }) in rw e.fact refl
-number_each ((span, TypeWord Signed n) ∷ ts) = refl
-number_each ((span, TypeWord Plain n) ∷ ts) = refl
-number_each ((span, Sign b) ∷ ts) = let e : IsNoNumber (cond (eqb b 59) Semicolon OtherSign) = neither (eqb b 59) Semicolon OtherSign (record { fact = refl }) (record { fact = refl }) in rw e.fact refl
-number_each ((span, Faulty f) ∷ ts) = refl
-number_each ((span, End) ∷ ts) = refl
+  -- where the reader of types is seen
+  module _ (calls : IsRead (type_at d) (type_of d) a_type) where
+    pipe_seen : IsRead (pipe (type_at d)) (pipe_in (type_of d)) pipe_rule
+    unfolding pipe
+    pipe_seen =
+        seq_seen types no_judge (env d) _ _ calls (λ t1.
+        then_seen {f = λ u. ((type_of d t1).0, number_at (first u))} Stages refl
+        (seq_seen types no_judge (env d) _ _ number_seen (λ t2. last_seen Semicolon ((type_of d t1).0, number_at t2) refl)))
 
--- the number and the last `;`
-end_seen : IsRead (number >>= λ stages. expect Semicolon >> pure stages) (λ t. number_in (first t)) (any_number ⟫ token Semicolon)
-end_seen =
-    let number_seen : IsRead number number_in any_number = record { at = number_each } in
-    seq_seen design_grammar no_judge (shut design_grammar) (λ stages. expect Semicolon >> pure stages) (λ t. number_in (first t)) number_seen (λ t. last_seen Semicolon (number_in t) refl)
+    design_seen : IsRead (design (type_at d)) (design_in (type_of d)) design_rule
+    unfolding design
+    design_seen = then_seen Esi refl (then_seen One refl (then_seen Semicolon refl (then_seen Pipe refl pipe_seen)))
 
--- the reader of designs is the law's reader of the rule, seen by the count of stages
-pub pipe_seen : IsRead pipe stages_in design_rule
-unfolding pipe
-pipe_seen = then_seen Esi refl (then_seen One refl (then_seen Semicolon refl (then_seen Pipe refl (then_seen OctetType refl (then_seen Stages refl end_seen)))))
+  -- the reader of designs is the law's reader of the rule, seen by what its trees are worth
+  pub all_seen : Sees types no_judge (env d) (design (type_at d)) (design_in (type_of d)) design_rule []
+  all_seen = design_seen (type_seen d no_judge)

@@ -1,46 +1,93 @@
 -- What a design text means is what the grammar says of it.
-use Rattle.std.proofs.Common.{◌≡◌, ◌↔◌, ◌<◌, ◌≤◌, ℕ, Bool, true, false, cond, List, [], length, Result, Ok, Err, refl, sym, ap, ◌∙◌, inl, inr, arith, IfOk}
+use Rattle.std.proofs.Common.{◌≡◌, ◌↔◌, ◌<◌, ◌≤◌, ℕ, true, false, List, [], ◌∷◌, length, drop, Result, Ok, Err, refl, sym, ap, ◌∙◌, subst, inl, inr, IfOk}
 use Rattle.std.proofs.Math.Dec.{ltb}
+use Rattle.std.proofs.Math.Logic.{∥∥₁_prop}
 use Rattle.std.proofs.lemmas.Bool.{lt-ltb, le-ltb, cases_lt}
-use Rattle.grammar_law.specs.Trees.{Fault}
-use Rattle.grammar_law.specs.Readers.{ended}
-use Rattle.grammar_law.specs.Simple.{TextIn, StopsIn, text_found, text_only, text_refused}
+use Rattle.grammar_law.specs.Rule.{Tree}
+use Rattle.grammar_law.specs.Kinds.{spell}
+use Rattle.grammar_law.specs.Trees.{Fault, Fits}
+use Rattle.grammar_law.specs.Trees.Fits.{fits_seq, fits_call}
+use Rattle.grammar_law.specs.Looser.{no_judge}
+use Rattle.grammar_law.specs.Nested.{NoTree, TooDeep, shut}
+use Rattle.grammar_law.specs.Levels.{all_own, no_base, tower_readable}
+use Rattle.grammar_law.specs.Whole.{Readable, IsTextOf, found, only, stops}
+use Rattle.grammar_law.specs.Bridge.{AreTold}
 use Rattle.esi_base.specs.Reading.{Reads}
 use Rattle.esi_base.specs.declared.place.Refusal.{Refusal}
 use Rattle.esi_base.specs.declared.place.Stop.{Stop}
 use Rattle.esi_base.specs.declared.place.Stop.TheVariants.{Refused, NoMemory}
-use Rattle.grammar_law.specs.Kinds.{first_token}
-use Rattle.grammar_law.specs.Bridge.{told_so}
-use Rattle.esi_lex.specs.declared.token.Fault.TheVariants.{UnknownOctet, LongWord, BadNumber}
+use Rattle.esi_lex.specs.Spellings.{AreSpelled}
+use Rattle.esi_lex.specs.WordTexts.{spelled_first, spelled_second, words_spelled}
+use Rattle.esi_lex.specs.Tokens.{tokens}
 use Rattle.esi_lex.specs.declared.token.Token.{Token}
-use Rattle.esi_lex.specs.declared.token.Token.TheVariants.{Word, TypeWord, Number, Sign, Faulty, End}
-use Rattle.esi_lex.specs.Tokens.{Lexeme, tokens}
-use Rattle.esi_text.specs.declared.design.Design.{Design}
-use Rattle.esi_text.specs.DesignKinds.{code, kind_of, refusal}
-use Rattle.esi_text.specs.DesignGrammar.{design_grammar, design_rule, stages_in, sample_of}
-use Rattle.esi_text.specs.DesignReading.{pipe, whole_text}
-use Rattle.esi_text.specs.DesignPlaces.{design_at, refusal_at, told_at, design_of, longest_text, too_long}
-use Rattle.esi_text.specs.DesignAnswers.{IsDesignText, StopsAt, IfRefused, OkUnlessMemory, RefusedUnlessMemory}
-use Rattle.esi_text.specs.DesignLaw.{pipe_seen, is_plain_design}
+use Rattle.design_tokens.specs.declared.kind.Kind.TheVariants.{Nothing}
+use Rattle.design_tokens.specs.Kinds.{code, unwanted}
+use Rattle.channel_types.specs.declared.esi_type.EsiType.{EsiType}
+use Rattle.channel_types.specs.Types.{IsGoodType}
+use Rattle.channel_types.specs.Goods.{IsGoodWithin, good_type}
+use Rattle.channel_types.specs.Decided.{type_calls}
+use Rattle.channel_types.specs.TypeGrammar.{types, type_judge, type_of}
+use Rattle.channel_types.specs.TypeAnswers.{TypeBreak, refusal_at, IfRefused, OkUnlessMemory}
+use Rattle.type_reader.specs.TypeReading.{type_at}
+use Rattle.type_reader.specs.TypeLaw.{env, told_alike}
+use Rattle.type_reader.specs.GoodTypes.{tree_good}
+use Rattle.esi_text.specs.declared.design.tree.Number.{Number}
+use Rattle.esi_text.specs.declared.design.tree.Pipe.{Pipe}
+use Rattle.esi_text.specs.declared.design.tree.Design.{Design}
+use Rattle.esi_text.specs.DesignGrammar.{design_rule, design_in, Parsed}
+use Rattle.esi_text.specs.DesignReading.{design, whole_text}
+use Rattle.esi_text.specs.DesignPlaces.{Meaning, meaning_of, said, meaning_at, told_at, design_of, longest_text, too_long}
+use Rattle.esi_text.specs.DesignAnswers.{IsTypeIn, IsDesignText, StopsToBeDesign, RefusedUnlessMemory}
+use Rattle.esi_text.specs.DesignLaw.{all_seen, is_plain_design}
+use Rattle.esi_text.specs.DesignNumbers.{no_stop}
 
--- the pipe of the lexemes of a whole text
-read_all : List Lexeme → Result (ℕ × ℕ) Fault
-read_all ts = ended design_grammar [] (pipe ts)
+-- ---- the lexemes of a whole text
 
--- what is read is a text of the grammar
-all_found : (ts : List Lexeme) (stages : ℕ × ℕ) → read_all ts ≡ Ok stages → TextIn design_grammar design_rule stages_in ts stages
-unfolding read_all
-all_found = text_found (λ t. code (kind_of t)) End (λ k. ((0, 0), sample_of k)) refusal design_rule is_plain_design stages_in pipe pipe_seen [] (λ t. told_so)
+readable : (d : ℕ) → Readable types no_judge (IsTypeIn d) (TypeBreak d) (env d)
+readable d = tower_readable types type_calls all_own type_judge (shut types) NoTree (TooDeep types) (no_base types type_calls) d no_judge
 
--- each text of the grammar is read
-all_only : (ts : List Lexeme) (stages : ℕ × ℕ) → TextIn design_grammar design_rule stages_in ts stages → read_all ts ≡ Ok stages
-unfolding read_all
-all_only = text_only (λ t. code (kind_of t)) End (λ k. ((0, 0), sample_of k)) refusal design_rule is_plain_design stages_in pipe pipe_seen [] (λ t. told_so)
+-- no token may stand behind a design
+none_told : AreTold types (code Nothing ∷ []) []
+unfolding unwanted
+none_told = told_alike (code Nothing ∷ []) [] (λ k. refl)
 
--- what is refused stops to be a text of the grammar there
-all_refused : (ts : List Lexeme) (fault : Fault) → read_all ts ≡ Err fault → StopsIn design_grammar design_rule ts fault
-unfolding read_all
-all_refused = text_refused (λ t. code (kind_of t)) End (λ k. ((0, 0), sample_of k)) refusal design_rule is_plain_design stages_in pipe pipe_seen [] (λ t. told_so)
+-- what is parsed is a text of the grammar, each such text is parsed, and all else stops there to be one
+all_found : (text : List ℕ) (parsed : Parsed) → whole_text text ≡ Ok parsed → IsTextOf types no_judge (IsTypeIn 16) design_rule (design_in (type_of 16)) (tokens text 0) parsed
+all_found text parsed e =
+    found types no_judge (IsTypeIn 16) (TypeBreak 16) (env 16) (readable 16) design_rule is_plain_design (design_in (type_of 16)) (design (type_at 16)) (all_seen 16) (code Nothing ∷ []) (λ t. none_told) (tokens text 0) parsed e
+
+all_only : (text : List ℕ) (parsed : Parsed) → IsTextOf types no_judge (IsTypeIn 16) design_rule (design_in (type_of 16)) (tokens text 0) parsed → whole_text text ≡ Ok parsed
+all_only text parsed o =
+    only types no_judge (IsTypeIn 16) (TypeBreak 16) (env 16) (readable 16) design_rule is_plain_design (design_in (type_of 16)) (design (type_at 16)) (all_seen 16) (code Nothing ∷ []) (λ t. none_told) (tokens text 0) parsed o
+
+all_refused : (text : List ℕ) (fault : Fault) → whole_text text ≡ Err fault → StopsToBeDesign text (refusal_at text fault)
+all_refused text fault e = record {
+  fault = fault;
+  stops = stops types no_judge (IsTypeIn 16) (TypeBreak 16) (env 16) (readable 16) design_rule is_plain_design (design_in (type_of 16)) (design (type_at 16)) (all_seen 16) (code Nothing ∷ []) (λ t. none_told) (tokens text 0) fault e;
+  is_told = refl;
+}
+
+-- ---- the type is good
+
+-- the fifth part of a design is its type
+type_good : (d : ℕ) (t : Tree Token) → Fits types no_judge (IsTypeIn d) design_rule t → AreSpelled (spell t) → IsGoodWithin d (design_in (type_of d) t).0
+type_good d t (fits_seq {a = a} {b = b} h (fits_seq {a = a2} {b = b2} h2 (fits_seq {a = a3} {b = b3} h3 (fits_seq {a = a4} {b = b4} h4 (fits_seq {a = ty} {b = more} (fits_call k) h5))))) s =
+    tree_good d ty k
+    (spelled_first (spell ty) (spell more)
+    (spelled_second (spell a4) (spell b4)
+    (spelled_second (spell a3) (spell b3)
+    (spelled_second (spell a2) (spell b2)
+    (spelled_second (spell a) (spell b) s)))))
+
+pub parsed_good : (text : List ℕ) (parsed : Parsed) → whole_text text ≡ Ok parsed → IsGoodType parsed.0
+parsed_good text parsed e = of (all_found text parsed e)
+  where
+    of : IsTextOf types no_judge (IsTypeIn 16) design_rule (design_in (type_of 16)) (tokens text 0) parsed → IsGoodType parsed.0
+    of o =
+        subst (λ z. IsGoodType z.0) (sym o.is)
+        (good_type (design_in (type_of 16) o.tree).0 (type_good 16 o.tree o.text.0 (subst AreSpelled o.text.1 (words_spelled 0 (drop 0 text)))))
+
+-- ---- texts and what they mean
 
 -- a text that is not too long means what its lexemes do
 short : (text : List ℕ) → length text ≤ longest_text → design_of text ≡ told_at text (whole_text text)
@@ -53,86 +100,95 @@ unfolding design_of
 long text h = let e : ltb longest_text (length text) ≡ true = lt-ltb longest_text (length text) h in rw e refl
 
 -- an answer is not both
-not_both : (design : Design) (refusal : Refusal) → let a : Result Design Refusal = Ok design in let b : Result Design Refusal = Err refusal in a ≡ b → ⊥
-not_both design refusal e = cc
+not_both : (meaning : Meaning) (refusal : Refusal) → let a : Result Meaning Refusal = Ok meaning in let b : Result Meaning Refusal = Err refusal in a ≡ b → ⊥
+not_both meaning refusal e = cc
 
-ok_is : (a b : Design) → let x : Result Design Refusal = Ok a in let y : Result Design Refusal = Ok b in x ≡ y → a ≡ b
+ok_is : (a b : Meaning) → let x : Result Meaning Refusal = Ok a in let y : Result Meaning Refusal = Ok b in x ≡ y → a ≡ b
 ok_is a b e = cc
 
-err_is : (a b : Refusal) → let x : Result Design Refusal = Err a in let y : Result Design Refusal = Err b in x ≡ y → a ≡ b
+err_is : (a b : Refusal) → let x : Result Meaning Refusal = Err a in let y : Result Meaning Refusal = Err b in x ≡ y → a ≡ b
 err_is a b e = cc
 
--- the design that the lexemes tell is that of a text of the grammar
-told_found : (text : List ℕ) (design : Design) (read : Result (ℕ × ℕ) Fault) → whole_text text ≡ read → told_at text read ≡ Ok design → IsDesignText text design
-unfolding read_all
-told_found text design (Ok stages) e f = record { stages = stages; is_text = all_found (tokens text 0) stages e; is_told = sym (ok_is (design_at text stages) design f) }
-told_found text design (Err fault) e f = absurd (not_both design (refusal_at text fault) (sym f))
+-- designs that say the same are the same, since it is kept but once that the type is good
+same_pipe : (a b : Pipe) → a.ty ≡ b.ty → a.stages ≡ b.stages → a ≡ b
+same_pipe a b e f = P e b.good ∙ ap (λ (s : Number). record { ty = b.ty; stages = s; good = b.good }) f
+  where
+    with : (good : ∥ IsGoodType a.ty ∥₁) → a ≡ record { ty = a.ty; stages = a.stages; good = good }
+    with good = ap (λ (g : ∥ IsGoodType a.ty ∥₁). record { ty = a.ty; stages = a.stages; good = g }) (∥∥₁_prop a.good good)
 
--- the refusal that the lexemes tell is where they stop to be a text of the grammar
-told_refused : (text : List ℕ) (refusal : Refusal) (read : Result (ℕ × ℕ) Fault) → whole_text text ≡ read → told_at text read ≡ Err refusal → StopsAt text refusal
-unfolding read_all
-told_refused text refusal (Ok stages) e f = absurd (not_both (design_at text stages) refusal f)
-told_refused text refusal (Err fault) e f = record { fault = fault; stops = all_refused (tokens text 0) fault e; is_told = sym (err_is (refusal_at text fault) refusal f) }
+    P : {ty : EsiType} → a.ty ≡ ty → (good : ∥ IsGoodType ty ∥₁) → a ≡ record { ty = ty; stages = a.stages; good = good }
+    P {ty} q = let F : EsiType → Type 0 = λ ty. (good : ∥ IsGoodType ty ∥₁) → a ≡ record { ty = ty; stages = a.stages; good = good } in subst F q with
 
--- the lexemes of a text of the grammar tell its design
-told_only : (text : List ℕ) (design : Design) → IsDesignText text design → told_at text (whole_text text) ≡ Ok design
-unfolding read_all
-told_only text design d = ap (told_at text) (all_only (tokens text 0) d.stages d.is_text) ∙ ap (λ (x : Design). Ok x) (sym d.is_told)
+same_design : (a b : Design) → meaning_of a ≡ meaning_of b → a ≡ b
+same_design a b e = ap (λ (p : Pipe). record { pipe = p }) (same_pipe a.pipe b.pipe (ap (λ m. m.ty) e) (ap (λ m. m.stages) e))
+
+-- what the lexemes tell
+told_found : (text : List ℕ) (answer : Design) (read : Result Parsed Fault) → whole_text text ≡ read → told_at text read ≡ Ok (meaning_of answer) → IsDesignText text answer
+told_found text answer (Ok parsed) e f =
+    let o = all_found text parsed e in
+    record { tree = o.tree; is_text = o.text; says = sym (ok_is (meaning_at text parsed) (meaning_of answer) f) ∙ ap (meaning_at text) o.is }
+told_found text answer (Err fault) e f = absurd (not_both (meaning_of answer) (refusal_at text fault) (sym f))
+
+told_refused : (text : List ℕ) (refusal : Refusal) (read : Result Parsed Fault) → whole_text text ≡ read → told_at text read ≡ Err refusal → StopsToBeDesign text refusal
+told_refused text refusal (Ok parsed) e f = absurd (not_both (meaning_at text parsed) refusal f)
+told_refused text refusal (Err fault) e f = subst (λ z. StopsToBeDesign text z) (err_is (refusal_at text fault) refusal f) (all_refused text fault e)
+
+told_only : (text : List ℕ) (answer : Design) → IsDesignText text answer → told_at text (whole_text text) ≡ Ok (meaning_of answer)
+told_only text answer d =
+    ap (told_at text) (all_only text (design_in (type_of 16) d.tree) (record { tree = d.tree; text = d.is_text; is = refl }))
+    ∙ ap (λ (x : Meaning). Ok x) (sym d.says)
+
+told_good : (text : List ℕ) (answer : Design) (read : Result Parsed Fault) → whole_text text ≡ read → told_at text read ≡ Ok (meaning_of answer) → IsGoodType answer.pipe.ty
+told_good text answer (Ok parsed) e f = subst IsGoodType (ap (λ m. m.ty) (ok_is (meaning_at text parsed) (meaning_of answer) f)) (parsed_good text parsed e)
+told_good text answer (Err fault) e f = absurd (not_both (meaning_of answer) (refusal_at text fault) (sym f))
+
+-- ---- the clauses of the reader
 
 -- what is read is a text of the grammar
-pub found_of : (text : List ℕ) (result : Result Design Stop) → Reads (design_of text) result → IfOk result (IsDesignText text)
-found_of text (Ok design) r =
+pub found_of : (text : List ℕ) (result : Result Design Stop) → Reads (design_of text) (said result) → IfOk result (IsDesignText text)
+found_of text (Ok answer) r =
     elim (cases_lt longest_text (length text)) [
-      | inl h ↦ absurd (not_both design too_long (sym r ∙ long text h))
-      | inr h ↦ told_found text design (whole_text text) refl (sym (short text h) ∙ r)
+      | inl h ↦ absurd (not_both (meaning_of answer) too_long (sym r ∙ long text h))
+      | inr h ↦ told_found text answer (whole_text text) refl (sym (short text h) ∙ r)
     ]
 found_of text (Err stop) r = tt
 
 -- each text of the grammar that is not too long is read
-pub only_of : (text : List ℕ) (result : Result Design Stop) (design : Design) → Reads (design_of text) result → length text ≤ longest_text → IsDesignText text design
-    → OkUnlessMemory design result
-only_of text (Ok other) design r h d = ok_is other design (sym r ∙ (short text h ∙ told_only text design d))
-only_of text (Err (Refused refusal)) design r h d = not_both design refusal (sym (short text h ∙ told_only text design d) ∙ r)
-only_of text (Err NoMemory) design r h d = tt
+pub only_of : (text : List ℕ) (result : Result Design Stop) (answer : Design) → Reads (design_of text) (said result) → length text ≤ longest_text → IsDesignText text answer
+    → OkUnlessMemory answer result
+only_of text (Ok other) answer r h d = same_design other answer (ok_is (meaning_of other) (meaning_of answer) (sym r ∙ (short text h ∙ told_only text answer d)))
+only_of text (Err (Refused refusal)) answer r h d = not_both (meaning_of answer) refusal (sym (short text h ∙ told_only text answer d) ∙ r)
+only_of text (Err NoMemory) answer r h d = tt
 
 -- a text that is not too long is refused where it stops to be one of the grammar
-pub refused_of : (text : List ℕ) (result : Result Design Stop) → Reads (design_of text) result → length text ≤ longest_text → IfRefused result (StopsAt text)
-refused_of text (Ok design) r h = tt
+pub refused_of : (text : List ℕ) (result : Result Design Stop) → Reads (design_of text) (said result) → length text ≤ longest_text → IfRefused result (StopsToBeDesign text)
+refused_of text (Ok answer) r h = tt
 refused_of text (Err (Refused refusal)) r h = told_refused text refusal (whole_text text) refl (sym (short text h) ∙ r)
 refused_of text (Err NoMemory) r h = tt
 
+-- what is read has a good type
+pub good_of : (text : List ℕ) (result : Result Design Stop) → Reads (design_of text) (said result) → IfOk result (λ answer. IsGoodType answer.pipe.ty)
+good_of text (Ok answer) r =
+    elim (cases_lt longest_text (length text)) [
+      | inl h ↦ absurd (not_both (meaning_of answer) too_long (sym r ∙ long text h))
+      | inr h ↦ told_good text answer (whole_text text) refl (sym (short text h) ∙ r)
+    ]
+good_of text (Err stop) r = tt
+
 -- a text that is too long is refused for that
-pub too_long_of : (text : List ℕ) (result : Result Design Stop) → Reads (design_of text) result → longest_text < length text → RefusedUnlessMemory too_long result
-too_long_of text (Ok design) r h = not_both design too_long (sym r ∙ long text h)
+pub too_long_of : (text : List ℕ) (result : Result Design Stop) → Reads (design_of text) (said result) → longest_text < length text → RefusedUnlessMemory too_long result
+too_long_of text (Ok answer) r h = not_both (meaning_of answer) too_long (sym r ∙ long text h)
 too_long_of text (Err (Refused refusal)) r h = err_is refusal too_long (sym r ∙ long text h)
 too_long_of text (Err NoMemory) r h = tt
 
--- no token is refused by the number of texts that are too long
-one_of_three : (b c : Bool) → ◌≡◌ {A = ℕ} (cond b 209 (cond c 219 205)) 210 → ⊥
-one_of_three true c e = absurd (omega (arith, e))
-one_of_three false true e = absurd (omega (arith, e))
-one_of_three false false e = absurd (omega (arith, e))
-
-no_length : (wanted : List ℕ) (found : Token) → refusal wanted found ≡ 210 → ⊥
-no_length wanted (Word w) e = one_of_three _ _ e
-no_length wanted (TypeWord class n) e = one_of_three _ _ e
-no_length wanted (Number n) e = one_of_three _ _ e
-no_length wanted (Sign b) e = one_of_three _ _ e
-no_length wanted (Faulty UnknownOctet) e = absurd (omega (arith, e))
-no_length wanted (Faulty LongWord) e = absurd (omega (arith, e))
-no_length wanted (Faulty BadNumber) e = absurd (omega (arith, e))
-no_length wanted End e = absurd (omega (arith, e))
-
 -- the number 210 tells that the text is too long, and nothing else
-pub length_of : (text : List ℕ) (result : Result Design Stop) → Reads (design_of text) result → IfRefused result (λ refusal. (refusal.number ≡ 210) ↔ (longest_text < length text))
-length_of text (Ok design) r = tt
-length_of text (Err (Refused told)) r = (
+pub length_of : (text : List ℕ) (result : Result Design Stop) → Reads (design_of text) (said result) → IfRefused result (λ refusal. (refusal.number ≡ 210) ↔ (longest_text < length text))
+length_of text (Ok answer) r = tt
+length_of text (Err (Refused refusal)) r = (
   (λ e. elim (cases_lt longest_text (length text)) [
     | inl h ↦ h
-    | inr h ↦
-        (let s : StopsAt text told = told_refused text told (whole_text text) refl (sym (short text h) ∙ r) in
-        absurd (no_length s.stops.kinds (first_token design_grammar s.stops.rest) (sym (ap (λ f. f.number) s.stops.told) ∙ (sym (ap (λ x. x.number) s.is_told) ∙ e))))
+    | inr h ↦ absurd (no_stop text refusal (told_refused text refusal (whole_text text) refl (sym (short text h) ∙ r)) e)
   ]),
-  (λ h. ap (λ x. x.number) (err_is told too_long (sym r ∙ long text h))),
+  (λ h. ap (λ x. x.number) (err_is refusal too_long (sym r ∙ long text h))),
 )
 length_of text (Err NoMemory) r = tt

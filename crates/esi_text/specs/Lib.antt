@@ -1,8 +1,8 @@
 pub mod DesignAnswers
 pub mod DesignGrammar
-pub mod DesignKinds
 pub mod DesignLaw
 pub mod DesignMeaning
+pub mod DesignNumbers
 pub mod DesignPlaces
 pub mod DesignReading
 pub mod Stimulus

@@ -1,5 +1,5 @@
 -- What a stimulus text means, line by line.
-use Rattle.std.specs.Prelude.{ℕ, ◌≡◌, ◌+◌, nat_lt, nat_le, Option, Some, None, Result, Ok, Err, List, [], ◌∷◌, if◌then◌else◌, length, codes, ◌++◌, refl}
+use Rattle.std.specs.Prelude.{ℕ, ◌≡◌, ◌+◌, Bool, true, false, nat_lt, nat_le, Option, Some, None, Result, Ok, Err, List, [], ◌∷◌, if◌then◌else◌, length, codes, ◌++◌, refl}
 use Rattle.std.specs.Str.{bytes_eq}
 use Rattle.esi_base.specs.declared.place.Refusal.{Refusal}
 use Rattle.small_text.specs.Lines.{Part, Line, place_of, lines, parts_from, numbered_from, counting_lines}
@@ -7,7 +7,7 @@ use Rattle.small_text.specs.Numbers.{number_of}
 use Rattle.small_text.specs.Hexadecimal.{octets_of_digits, octets_of}
 use Rattle.esi_text.specs.declared.stimulus.Stimulus.{Stimulus}
 use Rattle.esi_text.specs.declared.stimulus.Step.{Step}
-use Rattle.esi_text.specs.declared.stimulus.Step.TheVariants.{Put, Run}
+use Rattle.esi_text.specs.declared.stimulus.Step.TheVariants.{Put, Ready, Run}
 
 infixl 10 ◌>>=◌
 -- A step that was refused refuses what stands on it.
@@ -25,6 +25,16 @@ put_of line name digits None = refused 223 line.number digits
 put_of line name digits (Some octets) =
     Ok (Put name.octets octets (place_of line.number name) (place_of line.number digits))
 
+-- What a switch is set to: `1` is on and `0` is off.
+abbrev pub switch_of : List ℕ → Option Bool
+switch_of octets =
+    if bytes_eq octets (codes "1") then Some true else (if bytes_eq octets (codes "0") then Some false else None)
+
+-- What a line switches, where its second part is this setting or none.
+abbrev pub ready_of : Line → Part → Part → Option Bool → Result Step Refusal
+ready_of line name digit None = refused 223 line.number digit
+ready_of line name digit (Some on) = Ok (Ready name.octets on (place_of line.number name))
+
 -- What a line runs, where its part is this number or none and so many cycles are run before it.
 abbrev pub run_of : ℕ → Line → Part → Option ℕ → Result Step Refusal
 run_of cycles line digits None = refused 223 line.number digits
@@ -38,6 +48,13 @@ put_step lines line (name ∷ digits ∷ []) =
     else put_of line name digits (octets_of digits.octets)
 put_step lines line _ = refused 222 line.number line.word
 
+-- A `ready` line has a name and a switch behind its first part.
+abbrev pub ready_step : ℕ → Line → List Part → Result Step Refusal
+ready_step lines line (name ∷ digit ∷ []) =
+    if nat_le 65536 lines then refused 226 line.number line.word
+    else ready_of line name digit (switch_of digit.octets)
+ready_step lines line _ = refused 222 line.number line.word
+
 -- A `run` line has a number behind its first part.
 abbrev pub run_step : ℕ → ℕ → Line → List Part → Result Step Refusal
 run_step lines cycles line (digits ∷ []) =
@@ -49,12 +66,14 @@ run_step lines cycles line _ = refused 222 line.number line.word
 unfoldable pub step_of : ℕ → ℕ → Line → Result Step Refusal
 step_of lines cycles line =
     if bytes_eq line.word.octets (codes "put") then put_step lines line line.others
+    else (if bytes_eq line.word.octets (codes "ready") then ready_step lines line line.others
     else (if bytes_eq line.word.octets (codes "run") then run_step lines cycles line line.others
-    else refused (if bytes_eq line.word.octets (codes "ready") then 219 else 221) line.number line.word)
+    else refused 221 line.number line.word))
 
 -- The cycles that a step runs.
 abbrev pub cycles_of : Step → ℕ
 cycles_of (Put _ _ _ _) = 0
+cycles_of (Ready _ _ _) = 0
 cycles_of (Run cycles) = cycles
 
 -- The steps of the lines that are left, behind so many lines and cycles.
@@ -82,9 +101,14 @@ pub stimulus_examples :
     (stimulus_of [] ≡ Ok (record { steps = [] }))
     × (stimulus_of (codes "put in 05")
     ≡ Ok (record { steps = Put (codes "in") (5 ∷ []) (record { line = 1; column = 5 }) (record { line = 1; column = 8 }) ∷ [] }))
+    × (stimulus_of (codes "ready out 0")
+    ≡ Ok (record { steps = Ready (codes "out") false (record { line = 1; column = 7 }) ∷ [] }))
+    × (stimulus_of (codes "ready out 1")
+    ≡ Ok (record { steps = Ready (codes "out") true (record { line = 1; column = 7 }) ∷ [] }))
+    × (stimulus_of (codes "ready out 2") ≡ Err (record { number = 223; place = record { line = 1; column = 11 } }))
     × (stimulus_of (codes "push in 01") ≡ Err (record { number = 221; place = record { line = 1; column = 1 } }))
     × (stimulus_of (codes "put in 0") ≡ Err (record { number = 223; place = record { line = 1; column = 8 } }))
     × (stimulus_of (codes "run 01") ≡ Err (record { number = 223; place = record { line = 1; column = 5 } }))
     × (stimulus_of (codes "run 1000000" ++ 10 ∷ codes "run 1") ≡ Err (record { number = 226; place = record { line = 2; column = 1 } }))
 unfolding stimulus_of steps_of step_of lines parts_from numbered_from octets_of_digits
-stimulus_examples = (refl, refl, refl, refl, refl, refl)
+stimulus_examples = (refl, refl, refl, refl, refl, refl, refl, refl, refl)

@@ -1,5 +1,5 @@
 -- What a stimulus is and what breaks its rules, line by line, whatever way it is read.
-use Rattle.std.specs.Prelude.{ℕ, ◌≡◌, ◌≢◌, ◌<◌, ◌≤◌, ◌⊎◌, Some, None, Result, Ok, Err, List, [], ◌∷◌, ◌++◌, if◌then◌else◌, length, codes, unwrap_or}
+use Rattle.std.specs.Prelude.{ℕ, ◌≡◌, ◌≢◌, ◌<◌, ◌≤◌, ◌⊎◌, Bool, true, false, Some, None, Result, Ok, Err, List, [], ◌∷◌, ◌++◌, if◌then◌else◌, length, codes, unwrap_or}
 use Rattle.std.specs.List.{sum_by, AllZip}
 use Rattle.std.specs.Str.{bytes_eq}
 use Rattle.esi_base.specs.declared.place.Place.{Place}
@@ -11,7 +11,7 @@ use Rattle.small_text.specs.Numbers.{number_of}
 use Rattle.small_text.specs.Hexadecimal.{octets_of}
 use Rattle.esi_text.specs.declared.stimulus.Stimulus.{Stimulus}
 use Rattle.esi_text.specs.declared.stimulus.Step.{Step}
-use Rattle.esi_text.specs.declared.stimulus.Step.TheVariants.{Put, Run}
+use Rattle.esi_text.specs.declared.stimulus.Step.TheVariants.{Put, Ready, Run}
 use Rattle.esi_text.specs.Stimulus.{cycles_of}
 
 -- ---- a line and its step
@@ -27,6 +27,21 @@ pub record IsPut (line : Line) (name octets : List ℕ) (place octets_place : Pl
   pub place_is : place_of line.number second ≡ place
   pub octets_place_is : place_of line.number third ≡ octets_place
 
+-- How a switch is written: on as `1` and off as `0`.
+abbrev pub switch_text : Bool → List ℕ
+switch_text true = codes "1"
+switch_text false = codes "0"
+
+-- The line is `ready NAME 0|1`.
+pub record IsReady (line : Line) (name : List ℕ) (on : Bool) (place : Place) : Type 0 where
+  pub second : Part
+  pub third : Part
+  pub word : line.word.octets ≡ codes "ready"
+  pub parts : line.others ≡ second ∷ third ∷ []
+  pub name_is : second.octets ≡ name
+  pub switch_is : third.octets ≡ switch_text on
+  pub place_is : place_of line.number second ≡ place
+
 -- The line is `run N`.
 pub record IsRun (line : Line) (cycles : ℕ) : Type 0 where
   pub second : Part
@@ -37,6 +52,7 @@ pub record IsRun (line : Line) (cycles : ℕ) : Type 0 where
 -- The step is what the line says.
 abbrev pub StepOf : Line → Step → Type 0
 StepOf line (Put name octets place octets_place) = IsPut line name octets place octets_place
+StepOf line (Ready name on place) = IsReady line name on place
 StepOf line (Run cycles) = IsRun line cycles
 
 -- A text is a stimulus where each line that counts is a step, in order, and no limit is passed.
@@ -62,10 +78,11 @@ pub record IsUnknown (line : Line) : Type 0 where
   pub not_run : line.word.octets ≢ codes "run"
   pub not_ready : line.word.octets ≢ codes "ready"
 
--- A `put` has two parts behind its first one, and a `run` has one; this line has not.
-abbrev pub IsMiscounted : Line → Type 0
-IsMiscounted line =
-    ((line.word.octets ≡ codes "put") × (length line.others ≢ 2)) ⊎ ((line.word.octets ≡ codes "run") × (length line.others ≢ 1))
+-- A `put` and a `ready` have two parts behind the first one, and a `run` has one; this line has not.
+pub data IsMiscounted (line : Line) : Type 0 where
+  of_put : line.word.octets ≡ codes "put" → length line.others ≢ 2 → IsMiscounted line
+  of_ready : line.word.octets ≡ codes "ready" → length line.others ≢ 2 → IsMiscounted line
+  of_run : line.word.octets ≡ codes "run" → length line.others ≢ 1 → IsMiscounted line
 
 -- The third part of a `put` is no octets.
 pub record IsNoOctets (line : Line) (part : Part) : Type 0 where
@@ -73,6 +90,13 @@ pub record IsNoOctets (line : Line) (part : Part) : Type 0 where
   pub word : line.word.octets ≡ codes "put"
   pub parts : line.others ≡ name ∷ part ∷ []
   pub unread : octets_of part.octets ≡ None
+
+-- The third part of a `ready` is no switch, neither `0` nor `1`.
+pub record IsNoSwitch (line : Line) (part : Part) : Type 0 where
+  pub name : Part
+  pub word : line.word.octets ≡ codes "ready"
+  pub parts : line.others ≡ name ∷ part ∷ []
+  pub unread : (on : Bool) → part.octets ≢ switch_text on
 
 -- The second part of a `run` is no number.
 pub record IsNoNumber (line : Line) (part : Part) : Type 0 where
@@ -86,10 +110,10 @@ PassesLimits before line = (65536 ≤ length before) ⊎ (1000000 < sum_by cycle
 
 -- A line breaks the rule of a number at one of its parts, behind the lines that count before it.
 pub data Breaks (before : List Line) (line : Line) : ℕ → Part → Type 0 where
-  not_built : line.word.octets ≡ codes "ready" → Breaks before line 219 line.word
   unknown : IsUnknown line → Breaks before line 221 line.word
   miscounted : IsMiscounted line → Breaks before line 222 line.word
   no_octets : (part : Part) → IsNoOctets line part → Breaks before line 223 part
+  no_switch : (part : Part) → IsNoSwitch line part → Breaks before line 223 part
   no_number : (part : Part) → IsNoNumber line part → Breaks before line 223 part
   passes : PassesLimits before line → Breaks before line 226 line.word
 

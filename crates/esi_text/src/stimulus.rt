@@ -1,9 +1,10 @@
-//! The stimulus: what is put and how many cycles are run (docs/small-texts.md, "Stimulus").
+//! The stimulus: what is put, which switches are set and how many cycles are run (docs/small-texts.md,
+//! "Stimulus").
 ghost use Rattle.std.specs.Prelude.{◌≡◌, ◌<◌, ◌≤◌, length, IfOk};
 ghost use Rattle.std.specs.Str.{bytes_eq};
 ghost use Rattle.esi_base.specs.Reading.{Reads};
 ghost use Rattle.esi_base.specs.declared.place.Stop.TheVariants.{Refused};
-ghost use Rattle.esi_text.specs.Stimulus.{put_step, run_step, step_of, steps_of, stimulus_of, too_long_refusal};
+ghost use Rattle.esi_text.specs.Stimulus.{switch_of, put_step, ready_step, run_step, step_of, steps_of, stimulus_of, too_long_refusal};
 ghost use Rattle.esi_text.specs.StimulusLaws.{IsStimulus, FirstBreak, IfRefused};
 ghost use Rattle.small_text.specs.Lines.{counting_lines};
 
@@ -41,6 +42,15 @@ pub enum Step {
         /// Where the octets stand.
         octets_place: Place,
     },
+    /// `ready NAME 0|1`: from here on the endpoint of the name is ready or not.
+    Ready {
+        /// The endpoint's name, as the text has it.
+        name: Octets,
+        /// Whether it is ready.
+        on: bool,
+        /// Where the name stands.
+        place: Place,
+    },
     /// `run N`: so many cycles are run.
     Run {
         /// How many cycles.
@@ -56,15 +66,15 @@ impl Step {
         ensures { result ≡ cycles_of self.now }
     {
         match self {
-            Step::Put { .. } => 0,
+            Step::Put { .. } | Step::Ready { .. } => 0,
             Step::Run { cycles } => *cycles,
         }
     }
 }
 
-/// Reads a stimulus. It is refused with 210 above 4,194,304 octets, with 219 at a line that begins
-/// with `ready`, with 221 at an unknown word, with 222 for a wrong count of parts, with 223 at octets
-/// or a number that are none, and with 226 for too many lines or cycles.
+/// Reads a stimulus. It is refused with 210 above 4,194,304 octets, with 221 at an unknown word, with
+/// 222 for a wrong count of parts, with 223 at octets, a switch or a number that are none, and with 226
+/// for too many lines or cycles.
 pub fn read_stimulus(alloc: Global, text: &[u8]) -> Result<Stimulus, Stop>
     ensures reads { Reads (stimulus_of text.now) result }
 
@@ -120,10 +130,10 @@ fn read_step(alloc: Global, line: Line<'_>, lines: u32, cycles: u64) -> Result<S
 {
     if is_word(line.word(), b"put") {
         read_put(alloc, line, lines)
+    } else if is_word(line.word(), b"ready") {
+        read_ready(alloc, line, lines)
     } else if is_word(line.word(), b"run") {
         read_run(line, lines, cycles)
-    } else if is_word(line.word(), b"ready") {
-        Err(refuse(219, line.place(line.word())))
     } else {
         Err(refuse(221, line.place(line.word())))
     }
@@ -150,6 +160,40 @@ fn read_put(alloc: Global, mut line: Line<'_>, lines: u32) -> Result<Step, Stop>
         place: line.place(&name),
         octets_place,
     })
+}
+
+/// Reads the rest of a `ready` line.
+fn read_ready(alloc: Global, mut line: Line<'_>, lines: u32) -> Result<Step, Stop>
+    ensures { Reads (ready_step lines line.entry line.entry.others) result }
+{
+    let word = line.place(line.word());
+    let name = line.next_part().ok_or(refuse(222, word))?;
+    let digit = line.next_part().ok_or(refuse(222, word))?;
+    if line.next_part().is_some() {
+        return Err(refuse(222, word));
+    }
+    if lines >= MOST_LINES {
+        return Err(refuse(226, word));
+    }
+    let on = switch(&digit).ok_or(refuse(223, line.place(&digit)))?;
+    Ok(Step::Ready {
+        name: List::from_slice(alloc, name.octets())?,
+        on,
+        place: line.place(&name),
+    })
+}
+
+/// What a switch is set to: `1` is on and `0` is off.
+fn switch(part: &Part<'_>) -> Option<bool>
+    ensures { result ≡ switch_of part.now.octets }
+{
+    if is_word(part, b"1") {
+        Some(true)
+    } else if is_word(part, b"0") {
+        Some(false)
+    } else {
+        None
+    }
 }
 
 /// Reads the rest of a `run` line.

@@ -8,7 +8,9 @@ use esi_base::Octets;
 /// that the type is good.
 #[derive(Debug, Drop)]
 pub struct Endpoint {
+    /// The name by which clients ask for it.
     pub name: Octets,
+    /// What goes through it.
     pub ty: EsiType,
 
     // A call that asks for a good type takes this fact by the lemma `kept_is_good` of specs/GoodTypes.antt.

@@ -38,11 +38,11 @@ with_taken ports ready = record ports { entering = after_take ports.entering rea
 abbrev pub with_word : Ported → Option Bits → Ported
 with_word ports word = record ports { leaving = after_word ports.leaving word }
 
--- the front of the ring on the way out handed, if there is one
-abbrev pub with_hand : Ported → Ported
-with_hand ports = record ports {
-  leaving = after_hand ports.leaving true;
-  handed = ports.handed ++ moves_from ports.cycles 0 (hand_of ports.leaving true ∷ []);
+-- the front of the ring on the way out handed, if there is one and the switch is on
+abbrev pub with_hand : Bool → Ported → Ported
+with_hand switch ports = record ports {
+  leaving = after_hand ports.leaving switch;
+  handed = ports.handed ++ moves_from ports.cycles 0 (hand_of ports.leaving switch ∷ []);
 }
 
 -- one more cycle ended

@@ -19,7 +19,7 @@ use std::alloc::Global;
 use std::collections::VecDeque;
 use std::marker::Model;
 
-/// The number of the channel on which a pipe takes values.
+/// The number of the one channel on each side.
 const CHANNEL: u32 = 0;
 
 /// A pipe that is simulated. Contracts see what waits, what the rings and the cells hold, the cycles
@@ -30,6 +30,8 @@ pub struct Pipe {
     waiting: VecDeque<Word>,
     ports: Ports,
     cells: Vec<Cell>,
+    /// Whether values are handed out.
+    is_on: bool,
 }
 
 impl Model for Pipe {
@@ -39,7 +41,7 @@ impl Model for Pipe {
 
     ghost Value = { One (List (List (List Bool))) };
 
-    ghost view = { λ p. record { waiting = p.waiting.items; entering = p.ports.entering; state = p.cells.items; leaving = p.ports.leaving; switch = true; cycles = p.ports.cycles; taken = p.ports.taken; handed = p.ports.handed } };
+    ghost view = { λ p. record { waiting = p.waiting.items; entering = p.ports.entering; state = p.cells.items; leaving = p.ports.leaving; switch = p.is_on; cycles = p.ports.cycles; taken = p.ports.taken; handed = p.ports.handed } };
 }
 
 impl Pipe {
@@ -51,6 +53,7 @@ impl Pipe {
             waiting: VecDeque::new(alloc),
             ports: Ports::new(alloc)?,
             cells: empty_cells(alloc, stages)?,
+            is_on: true,
         })
     }
 
@@ -93,6 +96,10 @@ impl Pipe {
     {
         match step {
             Drive::Put { channel, word } => self.put(*channel, *word),
+            Drive::Ready { channel, on } => {
+                self.set_switch(*channel, *on);
+                Ok(())
+            }
             Drive::Run { cycles } => self.cycles(*cycles),
         }
     }
@@ -105,6 +112,15 @@ impl Pipe {
             self.waiting.push_back(word)?;
         }
         Ok(())
+    }
+
+    fn set_switch(&mut self, channel: u32, on: bool)
+        ensures cycles { self.new.cycles ≡ self.old.cycles }
+        ensures set { simulation_of self.new ≡ stepped pipe_circuit (Drive.Ready channel on) (simulation_of self.old) }
+    {
+        if channel == CHANNEL {
+            self.is_on = on;
+        }
     }
 
     fn cycles(&mut self, count: u32) -> Result<(), NoMemory>
@@ -126,7 +142,7 @@ impl Pipe {
     {
         take_values(&mut self.waiting, &mut self.ports)?;
         transfer(&mut self.ports, &mut self.cells);
-        self.ports.hand()?;
+        self.ports.hand(self.is_on)?;
         self.ports.end_cycle();
         Ok(())
     }

@@ -93,9 +93,19 @@ impl Ports {
         }
     }
 
+    /// Hands out the front of the ring on the way out, if there is one and the switch is on.
+    pub fn hand(&mut self, is_on: bool) -> Result<(), NoMemory>
+        ensures { IfOk result (λ _. self.new ≡ with_hand is_on self.old) }
+    {
+        if is_on {
+            self.hand_front()?;
+        }
+        Ok(())
+    }
+
     /// Hands out the front of the ring on the way out, if there is one.
-    pub fn hand(&mut self) -> Result<(), NoMemory>
-        ensures { IfOk result (λ _. self.new ≡ with_hand self.old) }
+    fn hand_front(&mut self) -> Result<(), NoMemory>
+        ensures { IfOk result (λ _. self.new ≡ with_hand true self.old) }
     {
         let cycle = self.hub.journal().cycles;
         if let Some(word) = self.hub.hand(CHANNEL)? {

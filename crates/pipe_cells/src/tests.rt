@@ -101,3 +101,30 @@ fn a_value_that_has_not_passed_all_stages_is_not_handed(rt: HostRuntime) -> Resu
     assert_eq!(rt; pipe.handed().len(), 0);
     Ok(())
 }
+
+#[test]
+fn a_switch_that_is_off_fills_rings_and_stages(rt: HostRuntime) -> Result<(), Fail> {
+    let mut pipe = Pipe::new(rt.alloc(), 2)?;
+    pipe.run(&[Drive::Ready {
+        channel: 0,
+        on: false,
+    }])?;
+    puts_and_runs(&rt, &mut pipe, 0, 40, 60)?;
+    assert_eq!(rt; pipe.taken_count(), 36);
+    assert_eq!(rt; pipe.handed().len(), 0);
+    assert!(rt; pipe.cycle_count() < 1_000);
+    let steps = [
+        Drive::Ready {
+            channel: 1,
+            on: false,
+        },
+        Drive::Ready {
+            channel: 0,
+            on: true,
+        },
+        Drive::Run { cycles: 40 },
+    ];
+    pipe.run(&steps)?;
+    assert_handed(&rt, &pipe, 0, 40, 60);
+    Ok(())
+}

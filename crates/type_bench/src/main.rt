@@ -12,7 +12,8 @@ use std::{env, io};
 const LONGEST_TEXT: usize = 67_108_864;
 
 /// `type_bench read|print|copy ROUNDS FILE` works so often on the type that the file holds, and prints
-/// its width. Other words, a file that cannot be read and a text that is no type end with status 1.
+/// its width. Other words, a file that cannot be read, a text that is no type, a copy that is not the
+/// same and want of memory end with status 1.
 fn main(rt: HostRuntime) -> io::Result<ExitCode> {
     let mut words = Vec::new(rt.alloc());
     for word in env::args(&rt)?.skip(1) {

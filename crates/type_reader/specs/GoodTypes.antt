@@ -1,8 +1,8 @@
 -- What is read is good: the judges saw each level, and names are tokens of the kind of names.
-use Rattle.std.proofs.Common.{◌≡◌, ◌==◌, ◌+◌, ℕ, zero, suc, Bool, true, false, if◌then◌else◌, List, [], ◌∷◌, ◌++◌, map, drop, refl, sym, subst, arith, add-one}
+use Rattle.std.proofs.Common.{◌≡◌, ◌==◌, ◌+◌, ℕ, zero, suc, Bool, true, false, if◌then◌else◌, List, [], ◌∷◌, ◌++◌, map, drop, refl, sym, subst, arith, add-one, Result, Ok, Err, IfOk}
 use Rattle.std.specs.Prelude.{All}
 use Rattle.std.proofs.lemmas.List.Elements.{All-nil, All-cons}
-use Rattle.grammar_law.specs.Lexemes.{Lexeme}
+use Rattle.grammar_law.specs.Lexemes.{Lexeme, Lexemes}
 use Rattle.grammar_law.specs.Rule.{Tree, ◌⟫◌}
 use Rattle.grammar_law.specs.Rule.Rule.{star, call}
 use Rattle.grammar_law.specs.Kinds.{among, spell, second, inside}
@@ -29,6 +29,10 @@ use Rattle.channel_types.specs.Judged.{level_judged_good}
 use Rattle.channel_types.specs.Goods.{IsGoodWithin, good_bits, good_void, good_struct, good_array, good_deeper, good_type}
 use Rattle.channel_types.specs.TypeGrammar.{types, token, field_rule, struct_rule, array_rule, level_rule, type_rule, type_judge, judge_of, Found, field_in, struct_in, array_in, level_in, type_of}
 use Rattle.channel_types.specs.TypeAnswers.{IsTypeTree, IsTypeAt, IsTypeText}
+use Rattle.design_tokens.specs.declared.reading.Halt.{Halt}
+use Rattle.design_tokens.specs.Grammar.{AnswersAt}
+use Rattle.type_reader.specs.TypeReading.{type_at}
+use Rattle.type_reader.specs.TypeMeaning.{was_read}
 
 -- the level of a type that was judged good, with names for its fields
 level_good : (ty : EsiType) (level : EsiType-F EsiType Field) → out-EsiType ty ≡ level → judge_of ty ≡ 0 → All IsName (level_names level) → IsLevel level
@@ -124,3 +128,10 @@ at_good text at found o =
 -- and so is the type of a whole text
 pub text_good : (text : List ℕ) (ty : EsiType) → IsTypeText text ty → IsGoodType ty
 text_good text ty o = subst IsGoodType (sym o.is) (good_type (type_of 16 o.tree).0 (tree_good 16 o.tree o.fits (subst AreSpelled o.parts (words_spelled 0 (drop 0 text)))))
+
+-- and so is what was read from the lexemes of a text
+pub read_good : (ts : Lexemes Token) (result : Result Found Halt) (new : Lexemes Token) → AnswersAt (type_at 16 ts) result new → AreSpelled ts → IfOk result (λ found. IsGoodType found.0)
+read_good ts (Ok a) new e spelled =
+    let o = was_read ts a new e in
+    subst (λ z. IsGoodType z.0) (sym o.is) (good_type (type_of 16 o.tree).0 (tree_good 16 o.tree o.fits (spelled_first (spell o.tree) new (subst AreSpelled o.parts spelled))))
+read_good ts (Err halt) new e spelled = tt

@@ -1,8 +1,9 @@
 -- What the readers of types answer is what the grammar says of the text.
-use Rattle.std.proofs.Common.{◌≡◌, ℕ, List, [], ◌∷◌, Result, Ok, Err, refl, sym, ap, ◌∙◌, subst}
+use Rattle.std.proofs.Common.{◌≡◌, ◌++◌, ℕ, List, [], ◌∷◌, Result, Ok, Err, refl, sym, ap, ◌∙◌, subst}
 use Rattle.grammar_law.specs.Lexemes.{Lexemes}
 use Rattle.grammar_law.specs.Rule.{Tree}
 use Rattle.grammar_law.specs.Rule.Rule.{call}
+use Rattle.grammar_law.specs.Kinds.{spell}
 use Rattle.grammar_law.specs.Trees.{Fault, Fits}
 use Rattle.grammar_law.specs.Trees.Fits.{fits_call}
 use Rattle.grammar_law.specs.Looser.{no_judge}
@@ -38,13 +39,23 @@ none_told : AreTold types (code Nothing ∷ []) []
 unfolding unwanted
 none_told = told_alike (code Nothing ∷ []) [] (λ k. refl)
 
+-- What was read from some lexemes is the type of a tree of which they are the first ones.
+pub record IsRead (ts : Lexemes Token) (a : Found) (rest : Lexemes Token) : Type 0 where
+  pub tree : Tree Token
+  pub fits : IsTypeTree 16 tree
+  pub parts : ts ≡ spell tree ++ rest
+  pub is : a ≡ type_of 16 tree
+
+pub was_read : (ts : Lexemes Token) (a : Found) (rest : Lexemes Token) → type_at 16 ts ≡ Ok (a, rest) → IsRead ts a rest
+was_read ts a rest e = of (front_found types no_judge _ (TypeBreak 16) (env 16) (all 16) (call 0) refl (type_of 16) (type_at 16) (type_seen 16 no_judge) ts a rest e)
+  where
+    of : IsFrontOf types no_judge (TowerTree types all_own type_judge (shut types) NoTree (TooDeep types) 16) (call 0) (type_of 16) ts a rest → IsRead ts a rest
+    of o = record { tree = o.tree; fits = call_in 16 o.tree o.fits; parts = o.parts; is = o.is }
+
 -- What was read at an offset is the type that stands there, each such type is read, and all else is refused where it
 -- stops to be one.
 pub at_found : (text : List ℕ) (at : ℕ) (a : Found) (rest : Lexemes Token) → type_at 16 (tokens text at) ≡ Ok (a, rest) → IsTypeAt text at a
-at_found text at a rest e = of (front_found types no_judge _ (TypeBreak 16) (env 16) (all 16) (call 0) refl (type_of 16) (type_at 16) (type_seen 16 no_judge) (tokens text at) a rest e)
-  where
-    of : IsFrontOf types no_judge (TowerTree types all_own type_judge (shut types) NoTree (TooDeep types) 16) (call 0) (type_of 16) (tokens text at) a rest → IsTypeAt text at a
-    of o = record { tree = o.tree; rest = rest; fits = call_in 16 o.tree o.fits; parts = o.parts; is = o.is }
+at_found text at a rest e = let o = was_read (tokens text at) a rest e in record { tree = o.tree; rest = rest; fits = o.fits; parts = o.parts; is = o.is }
 
 pub at_only : (text : List ℕ) (at : ℕ) (a : Found) → (o : IsTypeAt text at a) → type_at 16 (tokens text at) ≡ Ok (a, o.rest)
 at_only text at a o =

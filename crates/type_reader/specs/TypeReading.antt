@@ -13,6 +13,9 @@ use Rattle.design_tokens.specs.declared.reading.Halt.TheVariants.{Refused, NoMem
 use Rattle.esi_lex.specs.Tokens.{Lexeme, tokens}
 use Rattle.channel_types.specs.declared.esi_type.EsiType.TheVariants as V
 use Rattle.channel_types.specs.declared.esi_type.Field.{Field}
+use Rattle.esi_base.specs.declared.place.Refusal.{Refusal}
+use Rattle.channel_types.specs.declared.esi_type.EsiType.{EsiType}
+use Rattle.channel_types.specs.TypeAnswers.{refusal_at}
 use Rattle.channel_types.specs.TypeGrammar.{types, type_starts, judge_of, Found}
 
 -- a type word
@@ -94,3 +97,21 @@ abbrev pub Answers : {A : Type 0} → Result A Fault → Result A Halt → Type 
 Answers read (Ok x) = read ≡ Ok x
 Answers read (Err (Refused fault)) = read ≡ Err (fault_of fault)
 Answers read (Err NoMemory) = Unit {0}
+
+-- what was read at an offset, told by line and column, whatever stands behind it
+abbrev pub told_at : List ℕ → Read Token Found → Result Found Refusal
+told_at text (Ok found) = Ok found.0
+told_at text (Err fault) = Err (refusal_at text fault)
+
+-- what was read of a whole text, told by line and column
+abbrev pub told_whole : List ℕ → Result Found Fault → Result EsiType Refusal
+told_whole text (Ok found) = Ok found.0
+told_whole text (Err fault) = Err (refusal_at text fault)
+
+-- what a text means at an offset: a type and the offset behind it, or a refusal
+abbrev pub type_from : List ℕ → ℕ → Result Found Refusal
+type_from text at = told_at text (type_at 16 (tokens text at))
+
+-- what a whole text means
+abbrev pub type_of_text : List ℕ → Result EsiType Refusal
+type_of_text text = told_whole text (whole_text text)

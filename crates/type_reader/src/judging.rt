@@ -5,7 +5,7 @@ ghost use Rattle.channel_types.specs.Types.{has_repeat, level_names};
 ghost use Rattle.channel_types.specs.declared.esi_type.EsiType.TheViews.{out-EsiType};
 ghost use Rattle.type_reader.specs.TypeReading.{number_told};
 
-use channel_types::{EsiType, names_repeat};
+use channel_types::{EsiType, capped_width, names_repeat};
 use esi_base::NoMemory;
 use std::alloc::Global;
 
@@ -13,11 +13,12 @@ use std::alloc::Global;
 const MOST_BITS: u32 = 1024;
 
 /// The number of the refusal: 101 for a width of 0 or above 1,024 bits, then 102 for a field name that
-/// stands twice; None where the type is good.
+/// stands twice; None where the type is good. A struct whose names are compared has at most 1,024
+/// fields, since it is not too wide and each of its fields has a bit.
 pub fn judge(alloc: Global, ty: &EsiType) -> Result<Option<u16>, NoMemory>
     ensures { IfOk result (λ number. number ≡ number_told (judge_of ty.now)) }
 {
-    let width = ty.capped_width();
+    let width = capped_width(ty);
     if width == 0 || MOST_BITS < width {
         return Ok(Some(101));
     }

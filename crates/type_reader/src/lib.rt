@@ -2,9 +2,9 @@
 #![tactic(auto)]
 
 mod judging;
-pub mod read;
-pub mod reading;
+mod reading;
 #[cfg(test)]
 mod tests;
+mod type_text;
 
-pub use read::{parse_type, read_type};
+pub use type_text::{next_type, parse_type, read_type};

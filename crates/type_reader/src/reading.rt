@@ -24,6 +24,7 @@ fn bits(cursor: &mut Cursor<'_>) -> Result<(EsiType, usize), Halt>
     Ok((EsiType::Bits { class, width }, end))
 }
 
+/// The word `void`: the type, and the offset behind it.
 #[tactic(auto, unfolding(crate::specs::TypeReading::void))]
 fn void(cursor: &mut Cursor<'_>) -> Result<(EsiType, usize), Halt>
     ensures { AnswersAt (spec.void cursor.old) result cursor.new }
@@ -32,6 +33,7 @@ fn void(cursor: &mut Cursor<'_>) -> Result<(EsiType, usize), Halt>
     Ok((EsiType::Void, end))
 }
 
+/// Whether a type may begin with a token of this kind.
 fn begins_type(kind: Kind) -> bool
     ensures { result ≡ among type_starts (kinds.code kind) }
 {
@@ -94,6 +96,7 @@ fn level(cursor: &mut Cursor<'_>, alloc: Global, levels: u32) -> Result<(EsiType
     }
 }
 
+/// A field of a struct.
 #[cycle(a_type)]
 #[tactic(auto, unfolding(crate::specs::TypeReading::field))]
 fn field(cursor: &mut Cursor<'_>, alloc: Global, levels: u32) -> Result<Field, Halt>
@@ -140,6 +143,7 @@ fn more_fields(
     Ok(fields)
 }
 
+/// A struct: the type, and the offset behind it.
 #[cycle(a_type)]
 #[tactic(auto, unfolding(crate::specs::TypeReading::struct_type))]
 fn struct_type(
@@ -157,6 +161,7 @@ fn struct_type(
     Ok((EsiType::Struct(fields), end))
 }
 
+/// An array: the type, and the offset behind it.
 #[cycle(a_type)]
 #[tactic(auto, unfolding(crate::specs::TypeReading::array_type))]
 fn array_type(cursor: &mut Cursor<'_>, alloc: Global, levels: u32) -> Result<(EsiType, usize), Halt>

@@ -151,9 +151,20 @@ fn sixteen_types_may_be_open(rt: HostRuntime) -> Result<(), Fail> {
 
 #[test]
 fn one_type_is_read_from_an_offset(rt: HostRuntime) -> Result<(), Fail> {
-    let text = b"chan array<ui8, 2> // items\n x";
-    let (ty, end) = read_type(rt.alloc(), text, 4)?;
-    assert_eq!(rt; end, 18);
-    assert_eq!(rt; ty.width(), 16);
+    let alloc = rt.alloc();
+    for (text, at, want, behind) in [
+        (
+            b"chan array<ui8, 2> // items\n x".as_slice(),
+            4,
+            "array<ui8, 2>",
+            18,
+        ),
+        (b"ui8@", 0, "ui8", 3),
+        (b"ui8 ui9", 3, "ui9", 7),
+    ] {
+        let (ty, end) = read_type(alloc, text, at)?;
+        assert_eq!(rt; end, behind);
+        assert_eq!(rt; ty.print_type(alloc)?.as_slice(), want.as_bytes());
+    }
     Ok(())
 }

@@ -1,7 +1,7 @@
 //! Sixteen limbs of 64 bits, the least significant one first. Contracts see the number that they are.
-ghost use Rattle.std.specs.Prelude.{◌≡◌, ◌+◌, ◌-◌, ◌*◌, ◌/◌, ◌%◌, ◌^◌, ◌<◌, ◌≤◌, length};
+ghost use Rattle.std.specs.Prelude.{◌≡◌, ◌+◌, ◌-◌, ◌*◌, ◌/◌, ◌%◌, ◌^◌, ◌<◌, ◌≤◌, length, bit_and, bit_or, bit_xor};
 ghost use Rattle.esi_base.specs.Parts.{whole, part};
-ghost use Rattle.esi_base.specs.Limbs.{limbs_of};
+ghost use Rattle.esi_base.specs.Limbs.{IsLimbs, limbs_of};
 
 /// How many bits a limb has.
 const LIMB_BITS: u32 = 64;
@@ -44,6 +44,56 @@ pub fn from_octets(octets: &[u8]) -> [u64; 16]
         let from = (LIMB_OCTETS * at).min(octets.len());
         let end = (from + LIMB_OCTETS).min(octets.len());
         out[at] = limb_of_octets(&octets[from..end]);
+    }
+    out
+}
+
+/// The bits that both numbers have.
+pub fn and(first: &[u64; 16], second: &[u64; 16]) -> [u64; 16]
+    requires first { IsLimbs first.now }
+    requires second { IsLimbs second.now }
+    ensures { result ≡ limbs_of (bit_and (whole 64 first.now) (whole 64 second.now)) }
+{
+    let mut out = [0; 16];
+    for at in 0..16 {
+        out[at] = first[at] & second[at];
+    }
+    out
+}
+
+/// The bits that one of the numbers has.
+pub fn or(first: &[u64; 16], second: &[u64; 16]) -> [u64; 16]
+    requires first { IsLimbs first.now }
+    requires second { IsLimbs second.now }
+    ensures { result ≡ limbs_of (bit_or (whole 64 first.now) (whole 64 second.now)) }
+{
+    let mut out = [0; 16];
+    for at in 0..16 {
+        out[at] = first[at] | second[at];
+    }
+    out
+}
+
+/// The bits that exactly one of the numbers has.
+pub fn xor(first: &[u64; 16], second: &[u64; 16]) -> [u64; 16]
+    requires first { IsLimbs first.now }
+    requires second { IsLimbs second.now }
+    ensures { result ≡ limbs_of (bit_xor (whole 64 first.now) (whole 64 second.now)) }
+{
+    let mut out = [0; 16];
+    for at in 0..16 {
+        out[at] = first[at] ^ second[at];
+    }
+    out
+}
+
+/// The bits below a width that the number does not have.
+pub fn not(limbs: &[u64; 16], width: u32) -> [u64; 16]
+    ensures { result ≡ limbs_of (bit_xor (whole 64 limbs.now) (2 ^ width - 1)) }
+{
+    let mut out = [0; 16];
+    for at in 0..16 {
+        out[at as usize] = limbs[at as usize] ^ limb_of_ones(width, at);
     }
     out
 }

@@ -1,104 +1,171 @@
 //! Worked texts with the answers that the document of the design text gives for them.
 use super::*;
+use std::fmt::Write;
+use std::process::Abort;
 use std::test::Fail;
 
-fn at(line: u32, column: u32) -> Place {
-    Place { line, column }
+/// What a text is answered: the printed type, the count of stages and its place, or the refusal's
+/// number and place.
+fn answer(alloc: Global, text: &[u8]) -> Result<String, Fail> {
+    let mut out = String::new(alloc);
+    match read_design(alloc, text) {
+        Ok(design) => {
+            let printed = design.pipe.ty.print_type(alloc)?;
+            for octet in printed.as_slice() {
+                out.push(char::from(*octet))?;
+            }
+            let Number { value, place } = design.pipe.stages;
+            let line = place.line;
+            let column = place.column;
+            write!(out, " stages {value} {line}:{column}")?;
+        }
+        Err(Stop::Refused(refusal)) => {
+            let number = refusal.number;
+            let line = refusal.place.line;
+            let column = refusal.place.column;
+            write!(out, "{number} {line}:{column}")?;
+        }
+        Err(Stop::NoMemory) => out.push_str("no memory")?,
+    }
+    Ok(out)
 }
 
-fn stages(value: u128, place: Place) -> Result<Design, Stop> {
-    Ok(Design {
-        pipe: Pipe {
-            stages: Number { value, place },
-        },
-    })
-}
-
-fn refused(number: u16, place: Place) -> Result<Design, Stop> {
-    Err(Stop::Refused(Refusal { number, place }))
+fn check(rt: &(impl Abort + AllocGlobal), rows: &[(&str, &str)]) -> Result<(), Fail> {
+    for (text, want) in rows {
+        let got = answer(rt.alloc(), text.as_bytes())?;
+        assert_eq!(rt; got.as_str(), *want, "of {text}");
+    }
+    Ok(())
 }
 
 #[test]
-fn texts_are_read_or_refused(rt: HostRuntime) {
-    let greatest = 340282366920938463463374607431768211455;
-    for (text, want) in [
-        ("esi 1; pipe ui8 stages 2;", stages(2, at(1, 24))),
-        ("esi 0x1; pipe ui8 stages 0x2;", stages(2, at(1, 26))),
-        ("esi 1; pipe ui8 stages 65;", stages(65, at(1, 24))),
-        (
-            "// a\nesi 1;pipe ui8//b\n\tstages\r\n 0;// c",
-            stages(0, at(4, 2)),
-        ),
-        (
-            "esi 1; pipe ui8 stages 340282366920938463463374607431768211455;",
-            stages(greatest, at(1, 24)),
-        ),
-        (
-            "esi 1; pipe ui8 stages 340282366920938463463374607431768211456;",
-            refused(203, at(1, 24)),
-        ),
-        ("", refused(206, at(1, 1))),
-        ("// \n \n", refused(206, at(3, 1))),
-        ("esi 1; top T { }", refused(219, at(1, 8))),
-        ("esi 1; bundle", refused(219, at(1, 8))),
-        ("esi 1; service", refused(219, at(1, 8))),
-        ("esi 1; module", refused(219, at(1, 8))),
-        ("esi 1; stages", refused(205, at(1, 8))),
-        ("esi 1; x", refused(205, at(1, 8))),
-        ("esi 2;", refused(209, at(1, 5))),
-        ("esi ui8", refused(205, at(1, 5))),
-        ("Esi 1;", refused(205, at(1, 1))),
-        ("esi 1; pipe ui9 stages 1;", refused(219, at(1, 13))),
-        ("esi 1; pipe si8 stages 1;", refused(219, at(1, 13))),
-        ("esi 1; pipe i8 stages 1;", refused(219, at(1, 13))),
-        ("esi 1; pipe ui1025", refused(219, at(1, 13))),
-        ("esi 1; pipe void", refused(219, at(1, 13))),
-        ("esi 1; pipe struct<a: ui8>", refused(219, at(1, 13))),
-        ("esi 1; pipe array<ui8, 2>", refused(219, at(1, 13))),
-        ("esi 1; pipe top", refused(205, at(1, 13))),
-        ("esi 1; pipe ui08 stages 1;", refused(203, at(1, 13))),
-        ("esi 1; pipe ui8 stages 02;", refused(203, at(1, 24))),
-        ("esi 1; pipe ui8 stages x;", refused(205, at(1, 24))),
-        ("esi 1; pipe ui8 stages 2", refused(206, at(1, 25))),
-        ("esi 1; pipe ui8 stages 2; ;", refused(205, at(1, 27))),
-        ("esi 1; pipe ui8 stages 2; @", refused(201, at(1, 27))),
-        ("esi 1;\n  @", refused(201, at(2, 3))),
-        (
-            "a234567890123456789012345678901234567890123456789012345678901234",
-            refused(205, at(1, 1)),
-        ),
-        (
-            "a2345678901234567890123456789012345678901234567890123456789012345",
-            refused(202, at(1, 1)),
-        ),
-    ] {
-        assert_eq!(rt; read_design(rt.alloc(), text.as_bytes()), want, "of {text}");
-    }
+fn designs_are_read(rt: HostRuntime) -> Result<(), Fail> {
+    check(
+        &rt,
+        &[
+            ("esi 1; pipe ui8 stages 2;", "ui8 stages 2 1:24"),
+            ("esi 0x1; pipe ui8 stages 0x2;", "ui8 stages 2 1:26"),
+            ("esi 1; pipe ui8 stages 65;", "ui8 stages 65 1:24"),
+            (
+                "// a\nesi 1;pipe ui8//b\n\tstages\r\n 0;// c",
+                "ui8 stages 0 4:2",
+            ),
+            (
+                "esi 1; pipe ui8 stages 340282366920938463463374607431768211455;",
+                "ui8 stages 340282366920938463463374607431768211455 1:24",
+            ),
+            ("esi 1; pipe void stages 1;", "void stages 1 1:25"),
+            ("esi 1; pipe si1024 stages 1;", "si1024 stages 1 1:27"),
+            (
+                "esi 1; pipe struct<a: ui8, b: ui8> stages 1;",
+                "struct<a: ui8, b: ui8> stages 1 1:43",
+            ),
+            (
+                "esi 1; pipe array<struct<x:i1>,0x3>\nstages 64;",
+                "array<struct<x: i1>, 3> stages 64 2:8",
+            ),
+        ],
+    )
+}
+
+#[test]
+fn texts_are_refused(rt: HostRuntime) -> Result<(), Fail> {
+    check(
+        &rt,
+        &[
+            ("", "206 1:1"),
+            ("// \n \n", "206 3:1"),
+            ("esi 1; stages", "205 1:8"),
+            ("esi 1; x", "205 1:8"),
+            ("esi 2;", "209 1:5"),
+            ("esi ui8", "205 1:5"),
+            ("Esi 1;", "205 1:1"),
+            ("esi 1; pipe ui8 stages 02;", "203 1:24"),
+            ("esi 1; pipe ui8 stages x;", "205 1:24"),
+            ("esi 1; pipe ui8 stages 2", "206 1:25"),
+            ("esi 1; pipe ui8 stages 2; ;", "205 1:27"),
+            ("esi 1; pipe ui8 stages 2; top", "205 1:27"),
+            ("esi 1; pipe ui8 stages 2; @", "201 1:27"),
+            (
+                "esi 1; pipe ui8 stages 340282366920938463463374607431768211456;",
+                "203 1:24",
+            ),
+            ("esi 1;\n  @", "201 2:3"),
+            (
+                "a234567890123456789012345678901234567890123456789012345678901234",
+                "205 1:1",
+            ),
+            (
+                "a2345678901234567890123456789012345678901234567890123456789012345",
+                "202 1:1",
+            ),
+        ],
+    )
+}
+
+#[test]
+fn forms_that_are_not_built_yet_are_refused(rt: HostRuntime) -> Result<(), Fail> {
+    check(
+        &rt,
+        &[
+            ("esi 1; bundle b { x: to_hw ui8; }", "219 1:8"),
+            ("esi 1; service", "219 1:8"),
+            ("esi 1;\nmodule", "219 2:1"),
+            ("esi 1; top T { }", "219 1:8"),
+            ("top", "205 1:1"),
+            ("esi top", "205 1:5"),
+            ("esi 1; pipe top", "205 1:13"),
+        ],
+    )
+}
+
+#[test]
+fn types_in_a_design_are_refused(rt: HostRuntime) -> Result<(), Fail> {
+    check(
+        &rt,
+        &[
+            ("esi 1; pipe ui0 stages 1;", "101 1:13"),
+            ("esi 1; pipe ui1025 stages", "101 1:13"),
+            ("esi 1; pipe array<ui512, 3>\n@", "101 1:13"),
+            ("esi 1; pipe struct<a: ui0, a: ui8>", "101 1:23"),
+            ("esi 1; pipe struct<a: ui8, a: ui8>", "102 1:13"),
+            (
+                "esi 1; pipe array<array<array<array<array<array<array<array<array<array<array<array<array<array<array<array<void",
+                "103 1:109",
+            ),
+            ("esi 1; pipe struct<@: ui8>", "201 1:20"),
+            ("esi 1; pipe ui08 stages 1;", "203 1:13"),
+            ("esi 1; pipe array<ui8, 4294967296>", "203 1:24"),
+            ("esi 1; pipe 8", "205 1:13"),
+            ("esi 1; pipe union", "205 1:13"),
+            ("esi 1; pipe struct<a: ui8; b: ui8>", "205 1:26"),
+            ("esi 1; pipe struct<a: ui8", "206 1:26"),
+            ("esi 1; pipe struct<ui8: ui8>", "207 1:20"),
+            ("esi 1; pipe struct<stages: ui8>", "207 1:20"),
+        ],
+    )
 }
 
 /// Every front of a text that ends behind one of its tokens is refused at its end.
 #[test]
-fn fronts_are_refused_at_their_end(rt: HostRuntime) {
-    let text = b"esi 1; pipe ui8 stages 2;";
-    for (end, column) in [
-        (3, 4),
-        (5, 6),
-        (6, 7),
-        (7, 8),
-        (11, 12),
-        (15, 16),
-        (22, 23),
-        (24, 25),
-    ] {
-        assert!(rt; end <= text.len());
-        let front = read_design(rt.alloc(), &text[..end]);
-        assert_eq!(rt; front, refused(206, at(1, column)));
-    }
-    for (end, column) in [(1, 1), (2, 1), (8, 8), (13, 13), (17, 17)] {
-        assert!(rt; end <= text.len());
-        let front = read_design(rt.alloc(), &text[..end]);
-        assert_eq!(rt; front, refused(205, at(1, column)));
-    }
+fn fronts_are_refused_at_their_end(rt: HostRuntime) -> Result<(), Fail> {
+    check(
+        &rt,
+        &[
+            ("esi", "206 1:4"),
+            ("esi 1", "206 1:6"),
+            ("esi 1;", "206 1:7"),
+            ("esi 1; ", "206 1:8"),
+            ("esi 1; pipe", "206 1:12"),
+            ("esi 1; pipe ui8", "206 1:16"),
+            ("esi 1; pipe ui8 stages", "206 1:23"),
+            ("esi 1; pipe ui8 stages 2", "206 1:25"),
+            ("e", "205 1:1"),
+            ("esi 1; p", "205 1:8"),
+            ("esi 1; pipe u", "205 1:13"),
+            ("esi 1; pipe ui8 s", "205 1:17"),
+        ],
+    )
 }
 
 #[test]
@@ -109,14 +176,10 @@ fn long_texts_are_refused(rt: HostRuntime) -> Result<(), Fail> {
         long.push(b' ')?;
     }
     assert_eq!(rt; long.len(), 1_048_576);
-    assert_eq!(rt;
-        read_design(rt.alloc(), long.as_slice()),
-        stages(2, at(1, 24))
-    );
+    let read = answer(rt.alloc(), long.as_slice())?;
+    assert_eq!(rt; read.as_str(), "ui8 stages 2 1:24");
     long.push(b' ')?;
-    assert_eq!(rt;
-        read_design(rt.alloc(), long.as_slice()),
-        refused(210, at(1, 1))
-    );
+    let refused = answer(rt.alloc(), long.as_slice())?;
+    assert_eq!(rt; refused.as_str(), "210 1:1");
     Ok(())
 }

@@ -83,10 +83,43 @@ fn reads_put_and_run(rt: HostRuntime) -> Result<(), Fail> {
 }
 
 #[test]
+fn reads_ready(rt: HostRuntime) -> Result<(), Fail> {
+    let text = b"ready out 0\nrun 2\n  ready  a.b[1]  1 ";
+    let stimulus = read_stimulus(rt.alloc(), text)?;
+    match stimulus.steps.as_slice() {
+        [
+            Step::Ready {
+                name: first_name,
+                on: first_on,
+                place: first_place,
+            },
+            Step::Run { .. },
+            Step::Ready { name, on, place },
+        ] => {
+            assert_eq!(rt; first_name.as_slice(), b"out".as_slice());
+            assert_eq!(rt; *first_on, false);
+            assert_eq!(rt; *first_place, Place { line: 1, column: 7 });
+            assert_eq!(rt; name.as_slice(), b"a.b[1]".as_slice());
+            assert_eq!(rt; *on, true);
+            assert_eq!(rt;
+                *place,
+                Place {
+                    line: 3,
+                    column: 10
+                }
+            );
+        }
+        _ => panic!(rt; "other steps"),
+    }
+    Ok(())
+}
+
+#[test]
 fn reads_texts_within_the_limits(rt: HostRuntime) -> Result<(), Fail> {
     check_read(&rt, b"", 0, 0)?;
     check_read(&rt, b"\n# put\n   \n", 0, 0)?;
     check_read(&rt, b"put in 05", 1, 0)?;
+    check_read(&rt, b"ready out 0", 1, 0)?;
     check_read(&rt, b"run 1000000", 1, 1_000_000)?;
     check_read(&rt, b"run 0", 1, 0)?;
     check_read(&rt, b"run 999999\nrun 1\nrun 0\n", 3, 1_000_000)?;
@@ -99,8 +132,10 @@ fn refuses_words_and_counts_of_parts(rt: HostRuntime) -> Result<(), Fail> {
     check_refused(&rt, b" # put", 221, 1, 2)?;
     check_refused(&rt, b"Put in 01", 221, 1, 1)?;
     check_refused(&rt, b"put\tin 01", 221, 1, 1)?;
-    check_refused(&rt, b"ready out 0", 219, 1, 1)?;
-    check_refused(&rt, b"run 1\n ready", 219, 2, 2)?;
+    check_refused(&rt, b"Ready out 0", 221, 1, 1)?;
+    check_refused(&rt, b"ready", 222, 1, 1)?;
+    check_refused(&rt, b"ready out", 222, 1, 1)?;
+    check_refused(&rt, b"run 1\n ready out 0 1", 222, 2, 2)?;
     check_refused(&rt, b"put in", 222, 1, 1)?;
     check_refused(&rt, b"put", 222, 1, 1)?;
     check_refused(&rt, b"put in 0G 05", 222, 1, 1)?;
@@ -125,6 +160,17 @@ fn refuses_octets_and_numbers(rt: HostRuntime) -> Result<(), Fail> {
 }
 
 #[test]
+fn refuses_switches(rt: HostRuntime) -> Result<(), Fail> {
+    check_refused(&rt, b"ready out 2", 223, 1, 11)?;
+    check_refused(&rt, b"ready out 00", 223, 1, 11)?;
+    check_refused(&rt, b"ready out 01", 223, 1, 11)?;
+    check_refused(&rt, b"ready out 10", 223, 1, 11)?;
+    check_refused(&rt, b"ready 0 out", 223, 1, 9)?;
+    check_refused(&rt, b"run 1\n ready  a  1\r", 223, 2, 12)?;
+    Ok(())
+}
+
+#[test]
 fn refuses_too_many_cycles(rt: HostRuntime) -> Result<(), Fail> {
     check_refused(&rt, b"run 1000001", 226, 1, 1)?;
     check_refused(&rt, b"run 4294967295", 226, 1, 1)?;
@@ -140,8 +186,12 @@ fn counts_lines(rt: HostRuntime) -> Result<(), Fail> {
         text.extend_from_slice(b"run 0\n")?;
     }
     check_read(&rt, &text, 65_536, 0)?;
+    let full = text.len();
     text.extend_from_slice(b"#\n\n  put a 0")?;
     check_refused(&rt, &text, 226, 65_539, 3)?;
+    text.truncate(full);
+    text.extend_from_slice(b"  ready a 2")?;
+    check_refused(&rt, &text, 226, 65_537, 3)?;
     Ok(())
 }
 

@@ -5,4 +5,4 @@ use Rattle.esi_cosim.proofs.DrivesLemmas.{after}
 use Rattle.esi_cosim.proofs.judge.drives.Given as goal
 
 abbrev pub invariant-loop-step : goal.invariant-loop-step
-invariant-loop-step l = after l.drives (drives_of (drop l.step-index l.steps)) ≡ drives_of l.steps
+invariant-loop-step l = after l.drives (drives_of l.ty (drop l.step-index l.steps)) ≡ drives_of l.ty l.steps

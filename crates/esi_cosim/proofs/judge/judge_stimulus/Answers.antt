@@ -6,5 +6,5 @@ use Rattle.esi_cosim.proofs.judge.judge_stimulus.Goals as goal
 
 pub returns-clause-cycles : goal.returns-clause-cycles
 returns-clause-cycles c =
-    few_cycles c.in_ok-stimulus.stimulus.steps c.drives.result (subst (λ steps. Reads (drives_of steps) c.drives.result) c.as_slice.ensures c.drives.ensures)
+    few_cycles c.args.ty.now c.in_ok-stimulus.stimulus.steps c.drives.result (subst (λ steps. Reads (drives_of c.args.ty.now steps) c.drives.result) c.as_slice.ensures c.drives.ensures)
     c.in_ok-stimulus.ensures.found.few_cycles

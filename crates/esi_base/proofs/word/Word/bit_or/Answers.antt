@@ -1,0 +1,30 @@
+use Rattle.std.proofs.Common.{◌<◌, ◌^◌, ◌||◌, bit_or, ap, sym, ◌∙◌, subst}
+use Rattle.std.proofs.lemmas.Nat.{or_lt}
+use Rattle.esi_base.specs.Bits.{bits_of, zip_bits, length-bits_of}
+use Rattle.esi_base.specs.BitLists.{bits_of-or}
+use Rattle.esi_base.specs.Parts.{whole}
+use Rattle.esi_base.proofs.Made.{width_of, same_width, word_of_limbs, bits_of_limbs}
+use Rattle.esi_base.proofs.word.Word.bit_or.Goals as goal
+
+pub invariant_of-result : goal.invariant_of-result
+invariant_of-result c =
+    let a = c.self.inside in
+    let b = c.other.inside in
+    let n = whole 64 a.limbs in
+    let m = whole 64 b.limbs in
+    word_of_limbs c.or.result a.width (bit_or n m) c.or.ensures (or_lt a.width n m c.self.invariant.within (subst (λ k. m < 2 ^ k) (same_width a b c.args.self.now c.args.other.now c.self.view_is c.other.view_is c.requires) c.other.invariant.within)) c.self.invariant.low c.self.invariant.high
+
+pub returns-clause-bits : goal.returns-clause-bits
+returns-clause-bits c =
+    let a = c.self.inside in
+    let b = c.other.inside in
+    let n = whole 64 a.limbs in
+    let m = whole 64 b.limbs in
+    let same = same_width a b c.args.self.now c.args.other.now c.self.view_is c.other.view_is c.requires in
+    bits_of_limbs c.or.result a.width (bit_or n m) c.or.ensures (or_lt a.width n m c.self.invariant.within (subst (λ k. m < 2 ^ k) (same_width a b c.args.self.now c.args.other.now c.self.view_is c.other.view_is c.requires) c.other.invariant.within)) c.self.invariant.high
+    ∙ bits_of-or a.width n m
+    ∙ ap (λ bits. zip_bits ◌||◌ bits (bits_of a.width m)) c.self.view_is
+    ∙ ap (λ bits. zip_bits ◌||◌ c.args.self.now bits) (ap (λ k. bits_of k m) (sym same) ∙ c.other.view_is)
+
+pub returns-clause-width : goal.returns-clause-width
+returns-clause-width c = length-bits_of c.self.inside.width (whole 64 c.or.result) ∙ sym (width_of c.self.inside c.args.self.now c.self.view_is)
