@@ -24,8 +24,8 @@ const ENTRANCE: &[u8] = b"in";
 /// The endpoint at which a pipe hands values out.
 const EXIT: &[u8] = b"out";
 
-/// What a simulation is given: a pipe of 1 to 64 stages, and the steps that drive it, whose words are
-/// values of its type.
+/// What a simulation is given, as `judge` gives it: how many stages a pipe has, and the steps that drive
+/// it.
 #[derive(Debug, Drop)]
 pub struct Input {
     /// How many stages the pipe has.
