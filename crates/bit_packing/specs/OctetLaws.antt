@@ -1,13 +1,11 @@
 -- The octets of a packing are those that are judged to be, and of no other word.
-use Rattle.std.proofs.Common.{◌≡◌, ℕ, ◌+◌, ◌*◌, ◌/◌, ◌^◌, ◌<◌, ◌≤◌, ◌==◌, ◌↔◌, Bool, true, false, if◌then◌else◌, Result, Ok, Err, nat_lt, List, length, refl, sym, ap, ◌∙◌, subst, arith}
+use Rattle.std.proofs.Common.{◌≡◌, ℕ, ◌+◌, ◌/◌, ◌^◌, ◌<◌, ◌==◌, ◌↔◌, Bool, true, false, if◌then◌else◌, Result, Ok, Err, nat_lt, List, length, refl, sym, ap, ◌∙◌, subst}
 use Rattle.std.specs.Prelude.{IfOk}
 use Rattle.std.proofs.lemmas.Bool.{eqb-true, eq-eqb, lt-ltb, ltb-true}
-use Rattle.std.proofs.Math.Nat.{mod-eq_of_lt}
-use Rattle.std.proofs.Math.Pow.{pow_mono}
-use Rattle.esi_base.specs.Bits.{number_of, bits_of, length-bits_of, number_of-bits_of}
+use Rattle.esi_base.specs.Bits.{number_of, bits_of, length-bits_of}
 use Rattle.esi_base.specs.BitLists.{number_of-below, bits_of-number_of}
-use Rattle.esi_base.specs.Octets.{octet_count, octets_of}
-use Rattle.esi_base.specs.Parts.{whole, parts, AreSmall, parts-whole, whole-parts, length-parts}
+use Rattle.esi_base.specs.Octets.{octet_count, octets_of, whole-octets_of, octets_of-bits_of}
+use Rattle.esi_base.specs.Parts.{whole, AreSmall, length-parts}
 use Rattle.channel_types.specs.Types.{width_of}
 use Rattle.channel_types.specs.declared.esi_type.EsiType.{EsiType}
 use Rattle.bit_packing.specs.declared.octets.Unpacked.{Unpacked}
@@ -16,22 +14,6 @@ use Rattle.bit_packing.specs.Packing.{IsPacking}
 use Rattle.bit_packing.specs.Packings.{packing_width, packing_clear, made_packing}
 use Rattle.bit_packing.specs.Voids.{voids_of, has_marked_one}
 use Rattle.bit_packing.specs.OctetRules.{octets_for, bits_from, judged}
-
--- the octets of a word are its number again
-whole-octets_of : (word : List Bool) → whole 8 (octets_of word) ≡ number_of word
-whole-octets_of word =
-    whole-parts 8 (octet_count word) (number_of word)
-    ∙ mod-eq_of_lt (let e : number_of word < 2 ^ length word = number_of-below word in
-    let g : 2 ^ length word ≤ 2 ^ (8 * octet_count word) = pow_mono {i = length word} {j = 8 * octet_count word} (omega arith) in
-    omega arith)
-
--- octets that fit a width are those of the word that has their bits
-octets_of-bits_of : (octets : List ℕ) (width : ℕ) → AreSmall 8 octets → length octets ≡ (width + 7) / 8 → whole 8 octets < 2 ^ width → octets_of (bits_of width (whole 8 octets)) ≡ octets
-octets_of-bits_of octets width small count fits =
-    ap (λ n. parts 8 ((n + 7) / 8) (number_of (bits_of width (whole 8 octets)))) (length-bits_of width (whole 8 octets))
-    ∙ ap (λ n. parts 8 ((width + 7) / 8) n) (number_of-bits_of width (whole 8 octets) ∙ mod-eq_of_lt fits)
-    ∙ ap (λ k. parts 8 k (whole 8 octets)) (sym count)
-    ∙ parts-whole 8 octets small
 
 -- what is judged to be a packing is one, and these are its octets
 judged_packing : (octets : List ℕ) (ty : EsiType) (word : List Bool) → AreSmall 8 octets → judged octets ty ≡ Ok word → IsPacking word ty × (octets_of word ≡ octets)
@@ -45,7 +27,7 @@ judged_packing octets ty word small e = of (length octets == octets_for ty) (nat
     of true true false c f s e =
         let same : bits_from octets ty ≡ word = cc in (
           subst (λ w. IsPacking w ty) same (made_packing (bits_from octets ty) ty (length-bits_of (width_of ty) (whole 8 octets)) s),
-          ap octets_of (sym same) ∙ octets_of-bits_of octets (width_of ty) small (eqb-true (length octets) (octets_for ty) c) (ltb-true (whole 8 octets) (2 ^ width_of ty) f),
+          ap octets_of (sym same) ∙ octets_of-bits_of (width_of ty) octets small (eqb-true (length octets) (octets_for ty) c) (ltb-true (whole 8 octets) (2 ^ width_of ty) f),
         )
 
 -- the octets of a packing are judged to be its octets

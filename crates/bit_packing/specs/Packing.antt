@@ -69,11 +69,12 @@ IsPacking bits ty = ∥ ((v : Value) × PacksTo ty v bits) ∥₁
 abbrev pub IsOnlyValue : EsiType → List Bool → Value → Type 0
 IsOnlyValue ty bits v = (other : Value) → PacksTo ty other bits → other ≡ v
 
--- The values fit a struct's fields, or are so many and fit an array's item, and these are their bits.
+-- The values fit a struct's fields and these are their bits.
 pub record PackFields (fields : List Field) (values : List Value) (bits : List Bool) : Type 0 where
   pub fits : fits_fields (map field_fits fields) values ≡ true
   pub packs : first_highest (map field_bits fields) values ≡ bits
 
+-- These are so many values that fit an array's item, and these are their bits.
 pub record PackItems (item : EsiType) (count : ℕ) (values : List Value) (bits : List Bool) : Type 0 where
   pub count_of : length values ≡ count
   pub fits : list_all (fits_of item) values ≡ true

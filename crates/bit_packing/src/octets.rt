@@ -51,12 +51,8 @@ pub fn to_octets(word: &Word, out: &mut [u8])
 pub fn from_octets(octets: &[u8], ty: &EsiType) -> Result<Word, Unpacked>
     requires { IsGoodType ty.now }
 
-    // The answer is that of the tests in their order.
-    ensures judged { result ≡ judged octets.now ty.now }
-
     // It gives exactly the packings of the type, each for its own octets.
     ensures word { (word : List Bool) → (result ≡ Ok word) ↔ (IsPacking word ty.now × (octets_of word ≡ octets.now)) }
-
     ensures packing { IfOk result (λ word. IsPacking word ty.now) }
 
     // The number of octets is judged first, then the bits past the width, then those of voids.
@@ -64,8 +60,8 @@ pub fn from_octets(octets: &[u8], ty: &EsiType) -> Result<Word, Unpacked>
     ensures spare { (result ≡ Err Unpacked.Spare) ↔ ((length octets.now ≡ octets_for ty.now) × SetsSpare octets.now ty.now) }
     ensures void_bit { (result ≡ Err Unpacked.VoidBit) ↔ ((length octets.now ≡ octets_for ty.now) × (whole 8 octets.now < 2 ^ width_of ty.now) × SetsVoid (bits_from octets.now ty.now) ty.now) }
 
-    // In one function of the octets and the type.
-    ensures answer { result ≡ judged octets.now ty.now }
+    // The answer is that of the tests in their order.
+    ensures judged { result ≡ judged octets.now ty.now }
 {
     word_of(octets, ty)
 }

@@ -2,8 +2,7 @@
 ghost use Rattle.std.specs.Prelude.{◌≡◌, ◌≤◌, ◌+◌, ◌-◌, ◌*◌, IfOk, All, map, take, drop, length, false};
 ghost use Rattle.std.specs.List.{sum_by};
 ghost use Rattle.channel_types.specs.Types.{IsGoodType, width_of, field_width};
-ghost use Rattle.bit_packing.specs.Packing.{PacksTo, IsPacking, IsOnlyValue};
-ghost use Rattle.bit_packing.specs.Packing.{PackFields, PackItems};
+ghost use Rattle.bit_packing.specs.Packing.{PacksTo, PackFields, PackItems, IsPacking, IsOnlyValue};
 ghost use Rattle.bit_packing.specs.Voids.{has_marked_one, voids_of, field_voids, stacked, repeated};
 
 use crate::value::Value;
