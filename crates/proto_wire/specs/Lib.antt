@@ -1,0 +1,10 @@
+pub mod AllFields
+pub mod AllFieldsLaws
+pub mod FieldLaws
+pub mod FieldReading
+pub mod Fields
+pub mod ValueLaws
+pub mod Varint
+pub mod VarintLaws
+pub mod Written
+pub mod WrittenLaws
