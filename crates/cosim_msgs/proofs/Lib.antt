@@ -1,0 +1,5 @@
+pub mod Written
+pub mod Lengths
+pub mod Loops
+pub mod Spans
+pub mod Texts

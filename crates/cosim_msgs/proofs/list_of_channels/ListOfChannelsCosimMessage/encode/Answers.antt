@@ -1,0 +1,8 @@
+use Rattle.cosim_msgs.specs.Spelling.{list_spelling}
+use Rattle.cosim_msgs.specs.ReadAgain.{list_again}
+use Rattle.cosim_msgs.proofs.Written.{read_again}
+use Rattle.cosim_msgs.proofs.list_of_channels.ListOfChannelsCosimMessage.encode.Goals as goal
+
+pub returns-clause-read_again : goal.returns-clause-read_again
+returns-clause-read_again c =
+    read_again c.push-written.result c.settle.result c.args.out.now c.push-written.new.out c.settle.new.out (list_spelling c.args.self.now) c.settle.ensures.same c.push-written.ensures.written c.settle.ensures.kept c.settle.ensures.small (λ fits texts. list_again c.args.self.now fits c.requires texts)

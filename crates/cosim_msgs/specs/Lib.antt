@@ -1,0 +1,13 @@
+pub mod Answers
+pub mod Values
+pub mod Reading
+pub mod Messages
+pub mod Spelling
+pub mod Steps
+pub mod Shown
+pub mod SpanLaws
+pub mod RunLaws
+pub mod MessageLaws
+pub mod Decoding
+pub mod ReadAgain
+pub mod Examples
