@@ -1,0 +1,11 @@
+pub mod Answers
+pub mod Calls
+pub mod Examples
+pub mod Front
+pub mod Messages
+pub mod Streams
+pub mod FrontLaws
+pub mod AnswerLaws
+pub mod StreamLaws
+pub mod CallLaws
+pub mod Reading
