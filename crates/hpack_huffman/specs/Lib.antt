@@ -1,0 +1,13 @@
+pub mod Answers
+pub mod Code
+pub mod CodeLaws
+pub mod Decoding
+pub mod DecodingLaws
+pub mod Encoding
+pub mod EncodingLaws
+pub mod Halves
+pub mod HighBits
+pub mod Laws
+pub mod Machines
+pub mod Puts
+pub mod Tree
