@@ -1,0 +1,78 @@
+-- Octets that are added one part behind the other.
+use Rattle.std.proofs.Common.{◌≡◌, ℕ, zero, suc, ◌+◌, ◌-◌, ◌*◌, ◌/◌, ◌%◌, ◌^◌, ◌<◌, ◌≤◌, List, [], ◌∷◌, ◌++◌, length, take, refl, ap, sym, ◌∙◌, arith}
+use Rattle.std.proofs.lemmas.Bool.{lt-ltb, le-ltb, cond-true, cond-false}
+use Rattle.std.proofs.lemmas.List.{append_assoc, append-nil, take_at}
+use Rattle.std.proofs.Math.Nat.{pow-succ'}
+use Rattle.hpack.specs.Encoding.{groups_of, integer_of}
+use Rattle.hpack.specs.Extends.{Extends}
+
+pub extends_none : (old new : List ℕ) → new ≡ old → Extends old new
+extends_none old new same = record { more = []; whole = same ∙ sym (append-nil old) }
+
+pub extends_more : (old now new more : List ℕ) → now ≡ old ++ more → Extends now new → Extends old new
+extends_more old now new more whole e = record { more = more ++ e.more; whole = e.whole ∙ ap (λ o. o ++ e.more) whole ∙ append_assoc old more e.more }
+
+pub extends_after : (old now new more : List ℕ) → Extends old now → new ≡ now ++ more → Extends old new
+extends_after old now new more e added = record { more = e.more ++ more; whole = added ∙ ap (λ o. o ++ more) e.whole ∙ append_assoc old e.more more }
+
+pub extends_same : (old now new : List ℕ) → Extends old now → new ≡ now → Extends old new
+extends_same old now new e same = record { more = e.more; whole = same ∙ e.whole }
+
+-- what was there before is what is cut
+pub cut_back : (old new : List ℕ) (end : ℕ) → end ≡ length old → Extends old new → take end new ≡ old
+cut_back old new end is e = ap (take end) e.whole ∙ take_at old e.more end (sym is)
+
+suc_one : (k : ℕ) → suc k + 1 ≡ suc (k + 1)
+suc_one k = omega arith
+
+pub power_suc : (k : ℕ) → 128 ^ (suc k + 1) ≡ 128 * 128 ^ (k + 1)
+power_suc k = ap (λ e. 128 ^ e) (suc_one k) ∙ pow-succ' 128 (k + 1)
+
+-- one group more, or the last one
+pub groups_step : (turns rest : ℕ) → 128 ≤ rest → rest < 128 ^ (turns + 1) → (less : ℕ) × (groups_of turns rest ≡ (128 + rest % 128) ∷ groups_of less (rest / 128)) × (rest / 128 < 128 ^ (less + 1))
+unfolding groups_of
+groups_step zero rest high low = absurd (omega arith)
+groups_step (suc turns) rest high low =
+    let power = power_suc turns in
+    (turns, cond-false _ _ _ (le-ltb rest 128 high), omega arith)
+
+pub groups_last : (turns rest : ℕ) → rest < 128 → groups_of turns rest ≡ rest ∷ []
+unfolding groups_of
+groups_last zero rest low = refl
+groups_last (suc turns) rest low = cond-true _ _ _ (lt-ltb rest 128 low)
+
+-- what was written, with the groups of the rest behind it, is all
+pub record AreWritten (old now : List ℕ) (n rest : ℕ) : Type 0 where
+  pub turns : ℕ
+  pub whole : now ++ groups_of turns rest ≡ old ++ groups_of 4 n
+  pub low : rest < 128 ^ (turns + 1)
+  pub extends : Extends old now
+
+pub none_written : (old : List ℕ) (n : ℕ) → n < 2 ^ 32 → AreWritten old old n n
+none_written old n low = record { turns = 4; whole = refl; low = omega arith; extends = extends_none old old refl }
+
+pub one_written : (old now new : List ℕ) (n rest : ℕ) → AreWritten old now n rest → 128 ≤ rest → new ≡ now ++ (128 + rest % 128) ∷ [] → AreWritten old new n (rest / 128)
+one_written old now new n rest w high added =
+    let step = groups_step w.turns rest high w.low in
+    record {
+      turns = step.0;
+      whole = ap (λ o. o ++ groups_of step.0 (rest / 128)) added ∙ append_assoc now ((128 + rest % 128) ∷ []) (groups_of step.0 (rest / 128)) ∙ ap (λ g. now ++ g) (sym step.1) ∙ w.whole;
+      low = step.2;
+      extends = extends_after old now new ((128 + rest % 128) ∷ []) w.extends added;
+    }
+
+pub all_written : (old now new : List ℕ) (n rest : ℕ) → AreWritten old now n rest → rest < 128 → new ≡ now ++ rest ∷ [] → new ≡ old ++ groups_of 4 n
+all_written old now new n rest w low added = added ∙ ap (λ g. now ++ g) (sym (groups_last w.turns rest low)) ∙ w.whole
+
+-- an integer in its prefix, and one behind it
+pub integer_short : (full n : ℕ) → n < full → integer_of full n ≡ n ∷ []
+unfolding integer_of
+integer_short full n low = cond-true _ _ _ (lt-ltb n full low)
+
+pub integer_long : (full n : ℕ) → full ≤ n → integer_of full n ≡ full ∷ groups_of 4 (n - full)
+unfolding integer_of
+integer_long full n high = cond-false _ _ _ (le-ltb n full high)
+
+pub long_written : (old now new : List ℕ) (full n : ℕ) → full ≤ n → now ≡ old ++ full ∷ [] → new ≡ now ++ groups_of 4 (n - full) → new ≡ old ++ integer_of full n
+long_written old now new full n high first groups =
+    groups ∙ ap (λ o. o ++ groups_of 4 (n - full)) first ∙ append_assoc old (full ∷ []) (groups_of 4 (n - full)) ∙ ap (λ o. old ++ o) (sym (integer_long full n high))

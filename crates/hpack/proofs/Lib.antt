@@ -1,0 +1,13 @@
+mod BlockLaw
+mod DecoderLaw
+mod EncodingLemmas
+mod FieldLaw
+mod IntegerLaw
+mod IntegerLoop
+mod LawProofs
+mod PartLaws
+mod ReadBackLaw
+mod RepresentationLaw
+mod StaticLemmas
+mod StringLaw
+mod TableLemmas

@@ -1,0 +1,22 @@
+//! Header blocks of HTTP/2 (RFC 7541): a decoder and an encoder, each with its table.
+#![tactic(auto)]
+
+mod decoder;
+mod dynamic_table;
+mod encoder;
+mod header;
+mod header_list;
+mod integer;
+mod laws;
+mod representation;
+mod static_table;
+mod stop;
+mod string;
+#[cfg(test)]
+mod tests;
+
+pub use decoder::Decoder;
+pub use encoder::Encoder;
+pub use header::{Header, Headers};
+pub use laws::{eviction_law, one_answer_law};
+pub use stop::HpackStop;

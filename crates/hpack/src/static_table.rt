@@ -1,0 +1,55 @@
+//! The static table (RFC 7541, section 2.3.1 and Appendix A).
+ghost use Rattle.std.specs.Prelude.{◌≡◌, ◌<◌, ◌*◌, ◌+◌, ◌-◌, IfOk, slice_get, Some};
+ghost use Rattle.hpack.specs.StaticTable.{static_table};
+ghost use Rattle.hpack.specs.StaticPieces.{piece};
+
+use crate::header::Header;
+use esi_base::{List, NoMemory};
+use std::alloc::Global;
+
+/// How many entries the static table has.
+pub(crate) const STATIC_ENTRIES: usize = 61;
+
+/// The names and values of the entries, one behind the other.
+const TEXT: [u8; 684] = *b"\
+    :authority:methodGET:methodPOST:path/:path/index.html:schemehttp:schemehttps:status200\
+    :status204:status206:status304:status400:status404:status500accept-charset\
+    accept-encodinggzip, deflateaccept-languageaccept-rangesaccept\
+    access-control-allow-originageallowauthorizationcache-controlcontent-disposition\
+    content-encodingcontent-languagecontent-lengthcontent-locationcontent-rangecontent-type\
+    cookiedateetagexpectexpiresfromhostif-matchif-modified-sinceif-none-matchif-range\
+    if-unmodified-sincelast-modifiedlinklocationmax-forwardsproxy-authenticate\
+    proxy-authorizationrangerefererrefreshretry-afterserverset-cookie\
+    strict-transport-securitytransfer-encodinguser-agentvaryviawww-authenticate";
+
+/// Where the pieces of `TEXT` begin, and where the last one ends: a name, its value, and so on.
+const ENDS: [u16; 123] = [
+    0, 10, 10, 17, 20, 27, 31, 36, 37, 42, 53, 60, 64, 71, 76, 83, 86, 93, 96, 103, 106, 113, 116,
+    123, 126, 133, 136, 143, 146, 160, 160, 175, 188, 203, 203, 216, 216, 222, 222, 249, 249, 252,
+    252, 257, 257, 270, 270, 283, 283, 302, 302, 318, 318, 334, 334, 348, 348, 364, 364, 377, 377,
+    389, 389, 395, 395, 399, 399, 403, 403, 409, 409, 416, 416, 420, 420, 424, 424, 432, 432, 449,
+    449, 462, 462, 470, 470, 489, 489, 502, 502, 506, 506, 514, 514, 526, 526, 544, 544, 563, 563,
+    568, 568, 575, 575, 582, 582, 593, 593, 599, 599, 609, 609, 634, 634, 651, 651, 661, 661, 665,
+    665, 668, 668, 684, 684,
+];
+
+/// The entry at a place, which counts from 0.
+pub(crate) fn static_entry(alloc: Global, at: usize) -> Result<Header, NoMemory>
+    requires { at < STATIC_ENTRIES }
+    ensures { IfOk result (λ header. slice_get static_table at ≡ Some header) }
+{
+    Ok(Header {
+        name: List::from_slice(alloc, piece(2 * at))?,
+        value: List::from_slice(alloc, piece(2 * at + 1))?,
+    })
+}
+
+/// A piece of the text: the name of an entry at twice its place, and behind it its value.
+fn piece(at: usize) -> &'static [u8]
+    requires { at < 122 }
+    ensures { result.now ≡ piece at }
+{
+    let from = ENDS[at] as usize;
+    let to = ENDS[at + 1] as usize;
+    &TEXT[from..to]
+}
