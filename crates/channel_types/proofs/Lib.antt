@@ -1,2 +1,3 @@
 pub mod Repeats
 pub mod Samples
+pub mod Decimals

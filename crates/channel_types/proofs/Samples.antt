@@ -4,7 +4,7 @@ use Rattle.std.specs.Str.{bytes_eq}
 use Rattle.std.proofs.lemmas.List.Elements.{All-nil, All-cons}
 use Rattle.esi_lex.specs.Tokens.{word_token}
 use Rattle.design_tokens.specs.Names.{IsName}
-use Rattle.design_tokens.specs.Kinds.{word_kind, member_word_kind, statement_word_kind, last_word_kind}
+use Rattle.design_tokens.specs.Kinds.{word_kind, member_word_kind, statement_word_kind, last_word_kind, operator_word_kind}
 use Rattle.channel_types.specs.declared.esi_type.EsiType.{EsiType}
 use Rattle.channel_types.specs.declared.esi_type.EsiType.TheVariants as V
 use Rattle.channel_types.specs.declared.esi_type.EsiType.TheOpen.{EsiType-F}
@@ -14,15 +14,15 @@ use Rattle.channel_types.specs.Equations.{width-field}
 use Rattle.channel_types.specs.Goods.{IsGoodWithin, good_void, good_struct, good_array, good_deeper, good_type}
 
 pub name_a : IsName (97 ∷ [])
-unfolding word_token word_kind member_word_kind statement_word_kind last_word_kind
+unfolding word_token word_kind member_word_kind statement_word_kind last_word_kind operator_word_kind
 name_a = record { word = record { begins = refl; octets = refl; spells = refl }; no_keyword = refl }
 
 pub name_b : IsName (98 ∷ [])
-unfolding word_token word_kind member_word_kind statement_word_kind last_word_kind
+unfolding word_token word_kind member_word_kind statement_word_kind last_word_kind operator_word_kind
 name_b = record { word = record { begins = refl; octets = refl; spells = refl }; no_keyword = refl }
 
 pub name_c : IsName (99 ∷ [])
-unfolding word_token word_kind member_word_kind statement_word_kind last_word_kind
+unfolding word_token word_kind member_word_kind statement_word_kind last_word_kind operator_word_kind
 name_c = record { word = record { begins = refl; octets = refl; spells = refl }; no_keyword = refl }
 
 pub void_is_good : IsGoodType V.Void

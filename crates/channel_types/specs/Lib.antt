@@ -4,7 +4,6 @@ pub mod Equations
 pub mod Goods
 pub mod TypeGrammar
 pub mod Judged
-pub mod Decided
 pub mod TypeAnswers
 pub mod Pieces
 pub mod PrintedTypes

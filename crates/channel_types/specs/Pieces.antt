@@ -22,12 +22,13 @@ use Rattle.design_tokens.specs.declared.kind.Kind.{Kind}
 use Rattle.design_tokens.specs.declared.kind.Kind.TheVariants.{TypeWord, One, Small, Great}
 use Rattle.design_tokens.specs.Kinds.{code, counts, word_kind}
 use Rattle.design_tokens.specs.Grammar.{kind_code, word_in, number_in, width_in}
-use Rattle.channel_types.specs.TypeGrammar.{types, token}
+use Rattle.design_tokens.specs.Names.{IsName}
+use Rattle.design_tokens.specs.Rules.{designs, token, a_name}
 
 -- The lexemes of a text are those of the tree and then those behind it, and the tree is worth this.
 pub record Cut (judge : Judges Token) (called : ℕ → Tree Token → Type 0) (r : Rule) (V : Tree Token → Type 0) (piece behind : List ℕ) (at : ℕ) : Type 0 where
   pub tree : Tree Token
-  pub fits : Fits types judge called r tree
+  pub fits : Fits designs judge called r tree
   pub worth : V tree
   pub cut : lexemes_from 0 false at (piece ++ behind) ≡ spell tree ++ lexemes_from 0 false (at + length piece) behind
 
@@ -91,7 +92,7 @@ module _ (judge : Judges Token) (called : ℕ → Tree Token → Type 0) where
   pub sign_piece : (k : Kind) (b : ℕ) (behind : List ℕ) → is_sign b ≡ true → kind_code (Sign b) ≡ code k → Piece (token k) (λ t. Unit {0}) (b ∷ []) behind
   sign_piece k b behind s e at = record { tree = leaf ((at, at + 1), Sign b); fits = fits_one (is_of_kind (code k) (kind_code (Sign b)) e); worth = tt; cut = sign_cut at b behind s }
 
-  pub word_piece : (k : Kind) (w behind : List ℕ) → IsWordText w → word_kind w ≡ k → stops is_word_octet behind ≡ true → Piece (token k) (λ t. leaf_by types (λ x. word_in x.1) t ≡ w) w behind
+  pub word_piece : (k : Kind) (w behind : List ℕ) → IsWordText w → word_kind w ≡ k → stops is_word_octet behind ≡ true → Piece (token k) (λ t. leaf_by designs (λ x. word_in x.1) t ≡ w) w behind
   word_piece k w behind h e s at = record {
     tree = leaf ((at, at + length w), Word w);
     fits = fits_one (is_of_kind (code k) (code (word_kind w)) (ap code e));
@@ -99,8 +100,11 @@ module _ (judge : Judges Token) (called : ℕ → Tree Token → Type 0) where
     cut = word_cut at w behind h s;
   }
 
+  pub name_piece : (w behind : List ℕ) → IsName w → stops is_word_octet behind ≡ true → Piece a_name (λ t. leaf_by designs (λ x. word_in x.1) t ≡ w) w behind
+  name_piece w behind h s at = record { tree = leaf ((at, at + length w), Word w); fits = fits_one h.no_keyword; worth = refl; cut = word_cut at w behind h.word s }
+
   pub bits_piece : (class : Class) (width : ℕ) (behind : List ℕ) → width ≤ 1024 → stops is_word_octet behind ≡ true
-      → Piece (token TypeWord) (λ t. leaf_by types (λ x. width_in x.1) t ≡ (class, width)) (class_letters class ++ decimal width) behind
+      → Piece (token TypeWord) (λ t. leaf_by designs (λ x. width_in x.1) t ≡ (class, width)) (class_letters class ++ decimal width) behind
   bits_piece class width behind h s at = record {
     tree = leaf ((at, at + length (class_letters class ++ decimal width)), WidthWord class width);
     fits = fits_one refl;
@@ -108,7 +112,7 @@ module _ (judge : Judges Token) (called : ℕ → Tree Token → Type 0) where
     cut = type_word_cut at class width behind h s;
   }
 
-  pub count_piece : (n : ℕ) (behind : List ℕ) → n < 2 ^ 32 → stops is_word_octet behind ≡ true → Piece (one counts) (λ t. leaf_by types (λ x. number_in x.1) t ≡ n) (decimal n) behind
+  pub count_piece : (n : ℕ) (behind : List ℕ) → n < 2 ^ 32 → stops is_word_octet behind ≡ true → Piece (one counts) (λ t. leaf_by designs (λ x. number_in x.1) t ≡ n) (decimal n) behind
   count_piece n behind h s at = record {
     tree = leaf ((at, at + length (decimal n)), Number n);
     fits = fits_one (small_count n h);

@@ -21,8 +21,8 @@ use Rattle.esi_lex.specs.Printed.{nothing_cut}
 use Rattle.esi_lex.specs.Tokens.{lexemes_from, word_token}
 use Rattle.esi_lex.specs.declared.token.Class.{Class}
 use Rattle.esi_lex.specs.declared.token.Token.{Token}
-use Rattle.design_tokens.specs.declared.kind.Kind.TheVariants.{Name, Less, Greater, Colon, Comma, Void, Struct, Array}
-use Rattle.design_tokens.specs.Kinds.{word_kind, member_word_kind, statement_word_kind, last_word_kind}
+use Rattle.design_tokens.specs.declared.kind.Kind.TheVariants.{Less, Greater, Colon, Comma, Void, Struct, Array}
+use Rattle.design_tokens.specs.Kinds.{word_kind, member_word_kind, statement_word_kind, last_word_kind, operator_word_kind}
 use Rattle.design_tokens.specs.Grammar.{word_in, number_in}
 use Rattle.design_tokens.specs.Names.{IsName}
 use Rattle.channel_types.specs.declared.esi_type.EsiType.{EsiType}
@@ -35,14 +35,15 @@ use Rattle.channel_types.specs.Types.{width_of, nesting_of, name_of, IsGoodType}
 use Rattle.channel_types.specs.Text.{text_of, field_text}
 use Rattle.channel_types.specs.Equations.{nesting-Bits, nesting-Void, nesting-Struct, nesting-Array, text-Bits, text-Void, text-Struct, text-Array, text-field}
 use Rattle.channel_types.specs.Goods.{IsGoodWithin, good_level, good_level_Bits, good_level_Struct, good_level_Array, good_low, good_within, fields_within, item_within}
-use Rattle.channel_types.specs.TypeGrammar.{types, token, a_type, field_rule, struct_rule, array_rule, level_rule, type_judge, judge_of, field_in, struct_in, array_in, level_in, type_of}
+use Rattle.design_tokens.specs.Rules.{designs, token, a_type, field_rule, struct_rule, array_rule, level_rule}
+use Rattle.channel_types.specs.TypeGrammar.{type_judge, judge_of, field_in, struct_in, array_in, level_in, type_of}
 use Rattle.channel_types.specs.Judged.{judge-good_level}
 use Rattle.channel_types.specs.TypeAnswers.{IsTypeTree, IsTypeText}
-use Rattle.channel_types.specs.Pieces.{Cut, Piece, join, gap, worth_so, sign_piece, word_piece, bits_piece, count_piece, star_none, star_more}
+use Rattle.channel_types.specs.Pieces.{Cut, Piece, join, gap, worth_so, sign_piece, word_piece, name_piece, bits_piece, count_piece, star_none, star_more}
 
 -- the trees of the rules that are called, with so many levels still to be opened
 abbrev Called : ℕ → ℕ → Tree Token → Type 0
-Called d = TowerTree types all_own type_judge (shut types) NoTree (TooDeep types) d
+Called d = TowerTree designs all_own type_judge (shut designs) NoTree (TooDeep designs) d
 
 -- The printed text of a type is cut into the tokens of a tree that is worth the type.
 pub record TypeCut (d : ℕ) (ty : EsiType) (behind : List ℕ) (at : ℕ) : Type 0 where
@@ -95,10 +96,10 @@ module _ (d : ℕ) where
   array_word = record { begins = refl; octets = refl; spells = refl }
 
   void_level : (behind : List ℕ) → stops is_word_octet behind ≡ true → P level_rule (λ t. (level_in (type_of d) t).0 ≡ V.Void) (text_of V.Void) behind
-  unfolding word_kind member_word_kind statement_word_kind last_word_kind
+  unfolding word_kind member_word_kind statement_word_kind last_word_kind operator_word_kind
   void_level behind s =
       piece_as _ _ behind (sym text-Void)
-      (on_right (codes "void") behind (λ t e. e) (on_left {V = λ t. leaf_by types (λ x. word_in x.1) t ≡ codes "void"} {W = λ t. (level_in (type_of d) (right t)).0 ≡ V.Void} (codes "void") behind (λ t e. refl) (word_piece (type_judge d) (Called d) Void (codes "void") behind void_word refl s)))
+      (on_right (codes "void") behind (λ t e. e) (on_left {V = λ t. leaf_by designs (λ x. word_in x.1) t ≡ codes "void"} {W = λ t. (level_in (type_of d) (right t)).0 ≡ V.Void} (codes "void") behind (λ t e. refl) (word_piece (type_judge d) (Called d) Void (codes "void") behind void_word refl s)))
 
   -- where the types in it are cut
   module _ (below : (ty : EsiType) → IsGoodWithin d ty → (behind : List ℕ) → stops is_word_octet behind ≡ true → (at : ℕ) → TypeCut d ty behind at) where
@@ -115,7 +116,7 @@ module _ (d : ℕ) where
     field_piece f behind name good s =
         piece_as _ _ behind (sym (text-field f))
         (worth_so (type_judge d) (Called d) (f.name ++ (58 ∷ 32 ∷ text_of f.ty)) behind (λ t v. field_is _ _ f v.0 v.1.1)
-        (join (type_judge d) (Called d) f.name ((58 ∷ []) ++ (32 ∷ text_of f.ty)) behind (word_piece (type_judge d) (Called d) Name f.name _ name.word name.no_keyword refl)
+        (join (type_judge d) (Called d) f.name ((58 ∷ []) ++ (32 ∷ text_of f.ty)) behind (name_piece (type_judge d) (Called d) f.name _ name refl)
         (join (type_judge d) (Called d) (58 ∷ []) (32 ∷ text_of f.ty) behind (sign_piece (type_judge d) (Called d) Colon 58 _ refl refl) (gap (type_judge d) (Called d) (text_of f.ty) behind (call_piece f.ty behind good s)))))
 
     -- the fields behind commas
@@ -142,7 +143,7 @@ module _ (d : ℕ) where
 
     struct_level : (f : Field) (fs : List Field) (behind : List ℕ) → All IsName (map name_of (f ∷ fs)) → All (λ f. IsGoodWithin d f.ty) (f ∷ fs) → stops is_word_octet behind ≡ true
         → P struct_rule (λ t. (struct_in (type_of d) (second (second t))).0 ≡ V.Struct (f ∷ fs)) (text_of (V.Struct (f ∷ fs))) behind
-    unfolding word_kind member_word_kind statement_word_kind last_word_kind
+    unfolding word_kind member_word_kind statement_word_kind last_word_kind operator_word_kind
     struct_level f fs behind names good s =
         piece_as _ _ behind (struct_text f fs)
         (worth_so (type_judge d) (Called d) _ behind (λ t v. ap (λ g. V.Struct (g ∷ items (λ w. field_in (type_of d) (second w)) (first (second (second (second t)))))) v.1.1.0 ∙ ap (λ gs. V.Struct (f ∷ gs)) v.1.1.1.0)
@@ -156,10 +157,10 @@ module _ (d : ℕ) where
 
     array_level : (item : EsiType) (count : ℕ) (behind : List ℕ) → IsGoodWithin d item → count < 2 ^ 32 → stops is_word_octet behind ≡ true
         → P array_rule (λ t. (array_in (type_of d) (second (second t))).0 ≡ V.Array item count) (text_of (V.Array item count)) behind
-    unfolding word_kind member_word_kind statement_word_kind last_word_kind
+    unfolding word_kind member_word_kind statement_word_kind last_word_kind operator_word_kind
     array_level item count behind good small s =
         piece_as (codes "array" ++ ((60 ∷ []) ++ (text_of item ++ ((44 ∷ []) ++ ((32 ∷ decimal count) ++ (62 ∷ [])))))) _ behind (sym (text-Array item count))
-        (worth_so (type_judge d) (Called d) _ behind (λ t v. ap (λ i. V.Array i (leaf_by types (λ x. number_in x.1) (first (second (second (second (second t))))))) v.1.1.0 ∙ ap (λ n. V.Array item n) v.1.1.1.1.0)
+        (worth_so (type_judge d) (Called d) _ behind (λ t v. ap (λ i. V.Array i (leaf_by designs (λ x. number_in x.1) (first (second (second (second (second t))))))) v.1.1.0 ∙ ap (λ n. V.Array item n) v.1.1.1.1.0)
         (join (type_judge d) (Called d) (codes "array") _ behind (word_piece (type_judge d) (Called d) Array (codes "array") _ array_word refl refl)
         (join (type_judge d) (Called d) (60 ∷ []) _ behind (sign_piece (type_judge d) (Called d) Less 60 _ refl refl)
         (join (type_judge d) (Called d) (text_of item) _ behind (call_piece item _ good refl)

@@ -18,15 +18,16 @@ use Rattle.esi_base.specs.declared.place.Stop.TheVariants.{Refused, NoMemory}
 use Rattle.esi_lex.specs.Tokens.{tokens}
 use Rattle.esi_lex.specs.declared.token.Token.{Token}
 use Rattle.channel_types.specs.declared.esi_type.EsiType.{EsiType}
-use Rattle.channel_types.specs.TypeGrammar.{types, type_judge, type_of, Found}
+use Rattle.design_tokens.specs.Rules.{designs}
+use Rattle.channel_types.specs.TypeGrammar.{type_judge, type_of, Found}
 
 -- a tree of the grammar of types, that many levels deep at most, all of whose types are judged good
 abbrev pub IsTypeTree : ℕ → Tree Token → Type 0
-IsTypeTree levels t = TowerTree types all_own type_judge (shut types) NoTree (TooDeep types) levels 0 t
+IsTypeTree levels t = TowerTree designs all_own type_judge (shut designs) NoTree (TooDeep designs) levels 0 t
 
 -- where such a tree breaks a limit
 abbrev pub TypeBreak : ℕ → ℕ → Fault → ℕ → Tree Token → Type 0
-TypeBreak levels = TowerBreak types all_own type_judge (shut types) NoTree (TooDeep types) levels
+TypeBreak levels = TowerBreak designs all_own type_judge (shut designs) NoTree (TooDeep designs) levels
 
 -- A type stands in the text at the offset, and this one is behind it.
 pub record IsTypeAt (text : List ℕ) (at : ℕ) (found : Found) : Type 0 where
@@ -56,7 +57,7 @@ refusal_at text fault = record { number = fault.number; place = place_in text fa
 -- may stand there, or at which a limit is broken.
 pub record StopsToBeType (text : List ℕ) (at : ℕ) (refusal : Refusal) : Type 0 where
   pub fault : Fault
-  pub stops : StopsAt types no_judge (TypeBreak 16) (call 0) (tokens text at) fault
+  pub stops : StopsAt designs no_judge (TypeBreak 16) (call 0) (tokens text at) fault
   pub is_told : refusal ≡ refusal_at text fault
 
 -- what holds of the refusal, if there is one

@@ -1,70 +1,20 @@
--- The grammar of type texts, as data:
---
---     type = typeword | "void" | "struct" "<" name ":" type { "," name ":" type } ">" | "array" "<" type "," count ">"
---
--- At most 16 types may be open at a place. A type is judged when its last token was read.
-use Rattle.std.specs.Prelude.{ℕ, zero, suc, nat_lt, ◌==◌, ◌||◌, if◌then◌else◌, [], ◌∷◌}
-use Rattle.grammar_law.specs.Rule.{Kinds, Rule, Tree, Grammar, ◌⟫◌}
-use Rattle.grammar_law.specs.Rule.Rule.{one, alt, star, call, judged}
+-- What the trees of types are worth (the grammar of the design text: `Rules` of design_tokens), and how types are judged:
+-- at most 16 types may be open at a place, and a type is judged when its last token was read.
+use Rattle.std.specs.Prelude.{ℕ, zero, suc, nat_lt, ◌==◌, ◌||◌, if◌then◌else◌, ◌∷◌}
+use Rattle.grammar_law.specs.Rule.{Tree}
 use Rattle.grammar_law.specs.Kinds.{first, second, inside}
 use Rattle.grammar_law.specs.Trees.{Judges}
 use Rattle.grammar_law.specs.Bridge.{leaf_by, either, items}
 use Rattle.grammar_law.specs.Looser.{no_judge}
 use Rattle.grammar_law.specs.Laws.{Limits}
 use Rattle.esi_lex.specs.declared.token.Token.{Token}
-use Rattle.esi_lex.specs.declared.token.Token.TheVariants.{End}
-use Rattle.design_tokens.specs.declared.kind.Kind.{Kind}
-use Rattle.design_tokens.specs.declared.kind.Kind.TheVariants.{Name, TypeWord, Less, Greater, Colon, Comma, Void, Struct, Array}
-use Rattle.design_tokens.specs.Kinds.{code, counts, refusal}
-use Rattle.design_tokens.specs.Grammar.{kind_code, sample, word_in, number_in, width_in}
+use Rattle.design_tokens.specs.Grammar.{word_in, number_in, width_in}
+use Rattle.design_tokens.specs.Rules.{designs}
 use Rattle.channel_types.specs.declared.esi_type.EsiType.{EsiType}
 use Rattle.channel_types.specs.declared.esi_type.EsiType.TheVariants as V
 use Rattle.channel_types.specs.declared.esi_type.EsiType.TheViews.{out-EsiType}
 use Rattle.channel_types.specs.declared.esi_type.Field.{Field}
 use Rattle.channel_types.specs.Types.{width_of, level_names, has_repeat}
-
--- a token of one kind
-abbrev pub token : Kind → Rule
-token kind = one (code kind ∷ [])
-
--- a type inside a type
-abbrev pub a_type : Rule
-a_type = call 0
-
-abbrev pub field_rule : Rule
-field_rule = token Name ⟫ token Colon ⟫ a_type
-
-abbrev pub struct_rule : Rule
-struct_rule = token Struct ⟫ token Less ⟫ field_rule ⟫ star (token Comma ⟫ field_rule) ⟫ token Greater
-
-abbrev pub array_rule : Rule
-array_rule = token Array ⟫ token Less ⟫ a_type ⟫ token Comma ⟫ one counts ⟫ token Greater
-
--- one level of a type
-abbrev pub level_rule : Rule
-level_rule = alt (token TypeWord) (alt (token Void) (alt struct_rule array_rule))
-
-abbrev pub type_rule : Rule
-type_rule = judged 0 level_rule
-
--- the kinds with which a type begins
-abbrev pub type_starts : Kinds
-type_starts = code TypeWord ∷ code Void ∷ code Struct ∷ code Array ∷ []
-
--- 103 where a type would be the 17th one open
-abbrev pub types : Grammar Token
-types = record {
-  kind = kind_code;
-  at_end = End;
-  sample = sample;
-  calls = 0 ∷ [];
-  body = λ n. type_rule;
-  starts = λ n. type_starts;
-  goes = λ n. [];
-  ends = λ n t. [];
-  refusal = refusal;
-  limit = λ n. 103;
-}
 
 -- The number of the refusal of a type all of whose parts are good: 101 for a width of 0 or above 1,024, then 102 for a
 -- repeated field name, and 0 for none.
@@ -78,21 +28,21 @@ abbrev pub Found : Type 0
 Found = EsiType × ℕ
 
 abbrev pub end_in : Tree Token → ℕ
-end_in t = leaf_by types (λ x. x.0.1) t
+end_in t = leaf_by designs (λ x. x.0.1) t
 
 module _ (inner : Tree Token → Found) where
   abbrev pub field_in : Tree Token → Field
-  field_in t = record { name = leaf_by types (λ x. word_in x.1) (first t); ty = (inner (second (second t))).0 }
+  field_in t = record { name = leaf_by designs (λ x. word_in x.1) (first t); ty = (inner (second (second t))).0 }
 
   abbrev pub struct_in : Tree Token → Found
   struct_in t = (V.Struct (field_in (first t) ∷ items (λ w. field_in (second w)) (first (second t))), end_in (second (second t)))
 
   abbrev pub array_in : Tree Token → Found
-  array_in t = (V.Array (inner (first t)).0 (leaf_by types (λ x. number_in x.1) (first (second (second t)))), end_in (second (second (second t))))
+  array_in t = (V.Array (inner (first t)).0 (leaf_by designs (λ x. number_in x.1) (first (second (second t)))), end_in (second (second (second t))))
 
   abbrev pub level_in : Tree Token → Found
   level_in =
-      either (leaf_by types (λ x. (V.Bits (width_in x.1).0 (width_in x.1).1, x.0.1)))
+      either (leaf_by designs (λ x. (V.Bits (width_in x.1).0 (width_in x.1).1, x.0.1)))
       (either (λ t. (V.Void, end_in t)) (either (λ t. struct_in (second (second t))) (λ t. array_in (second (second t)))))
 
 -- to that many levels

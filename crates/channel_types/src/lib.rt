@@ -4,7 +4,7 @@
 mod copy;
 pub mod esi_type;
 mod names;
-mod printing;
+pub mod printing;
 mod same;
 #[cfg(test)]
 mod tests;

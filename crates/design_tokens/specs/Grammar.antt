@@ -15,9 +15,9 @@ use Rattle.design_tokens.specs.declared.kind.Kind.TheVariants.{Name, TypeWord, S
 use Rattle.design_tokens.specs.declared.reading.Fault as code_fault
 use Rattle.design_tokens.specs.declared.reading.Halt.{Halt}
 use Rattle.design_tokens.specs.declared.reading.Halt.TheVariants.{Refused, NoMemory}
-use Rattle.design_tokens.specs.Kinds.{code, kind_of, numbers, counts, refusal}
+use Rattle.design_tokens.specs.Kinds.{code, kind_of, names, numbers, counts, refusal}
 
--- a word of each kind: a keyword by its kind, else a name
+-- a word of each kind: a keyword or an operator by its kind, else a name
 abbrev pub spelling : ℕ → List ℕ
 spelling k =
     if k == 19 then codes "esi"
@@ -51,7 +51,22 @@ spelling k =
     else (if k == 47 then codes "struct"
     else (if k == 48 then codes "array"
     else (if k == 49 then codes "union"
-    else codes "a"))))))))))))))))))))))))))))))
+    else (if k == 50 then codes "lit"
+    else (if k == 51 then codes "make"
+    else (if k == 52 then codes "cast"
+    else (if k == 53 then codes "zext"
+    else (if k == 54 then codes "slice"
+    else (if k == 55 then codes "not"
+    else (if k == 56 then codes "and"
+    else (if k == 57 then codes "or"
+    else (if k == 58 then codes "xor"
+    else (if k == 59 then codes "add"
+    else (if k == 60 then codes "sub"
+    else (if k == 61 then codes "eq"
+    else (if k == 62 then codes "lt"
+    else (if k == 63 then codes "cat"
+    else (if k == 64 then codes "mux"
+    else codes "a")))))))))))))))))))))))))))))))))))))))))))))
 
 -- a token of each kind
 abbrev pub sample_of : ℕ → Token
@@ -104,9 +119,24 @@ width_in t = (Unsigned, 0)
 abbrev pub expect : Kind → Reader Token ℕ
 expect wanted = took token_grammar (code wanted ∷ []) (code wanted) (λ x. x.0.1)
 
--- a name
-abbrev pub name : Reader Token (List ℕ)
-name = took token_grammar (code Name ∷ []) (code Name) (λ x. word_in x.1)
+-- one token of a kind: the offset of its first octet
+abbrev pub begin : Kind → Reader Token ℕ
+begin wanted = took token_grammar (code wanted ∷ []) (code wanted) (λ x. x.0.0)
+
+-- what a name's lexeme is worth: its octets, and the offset of the first one
+abbrev pub Named : Type 0
+Named = List ℕ × ℕ
+
+abbrev pub named_in : Lexeme → Named
+named_in x = (word_in x.1, x.0.0)
+
+-- a name; refusals are told as where only `Name` may stand
+abbrev pub name : Reader Token Named
+name = took_any token_grammar (code Name ∷ []) names named_in
+
+-- an operator of one kind, as a name; refusals are told as where only `Name` may stand
+abbrev pub operator : Kind → Reader Token Named
+operator wanted = took token_grammar (code Name ∷ []) (code wanted) named_in
 
 -- a count, a number below 2^32; refusals are told as where only `Small` may stand
 abbrev pub count : Reader Token ℕ

@@ -8,7 +8,7 @@ use Rattle.esi_lex.specs.declared.token.Token.{Token}
 use Rattle.esi_lex.specs.declared.token.Token.TheVariants.{Word, TypeWord as WidthWord, Number, Sign, Faulty, End}
 use Rattle.esi_lex.specs.Refused.{fault_number}
 use Rattle.design_tokens.specs.declared.kind.Kind.{Kind}
-use Rattle.design_tokens.specs.declared.kind.Kind.TheVariants.{Nothing, Name, TypeWord, One, Small, Great, Semicolon, Colon, Comma, Dot, Equals, OpenBrace, CloseBrace, OpenParenthesis, CloseParenthesis, Less, Greater, OpenBracket, CloseBracket, Esi, Pipe, Stages, Bundle, Service, Module, Top, ToHw, FromHw, Port, In, Out, Request, As, Implement, Inst, Chan, Drive, Stage, Buffer, Fifo, Map, Scan, Fork, Join, AsFifo, AsVr, Void, Struct, Array, Union}
+use Rattle.design_tokens.specs.declared.kind.Kind.TheVariants.{Nothing, Name, TypeWord, One, Small, Great, Semicolon, Colon, Comma, Dot, Equals, OpenBrace, CloseBrace, OpenParenthesis, CloseParenthesis, Less, Greater, OpenBracket, CloseBracket, Esi, Pipe, Stages, Bundle, Service, Module, Top, ToHw, FromHw, Port, In, Out, Request, As, Implement, Inst, Chan, Drive, Stage, Buffer, Fifo, Map, Scan, Fork, Join, AsFifo, AsVr, Void, Struct, Array, Union, Lit, Make, Cast, Zext, Slice, Not, And, Or, Xor, Add, Sub, Eq, Lt, Cat, Mux}
 
 -- the number of a kind, 0 for what is no token of the grammar
 abbrev pub code : Kind → ℕ
@@ -62,6 +62,41 @@ code Void = 46
 code Struct = 47
 code Array = 48
 code Union = 49
+code Lit = 50
+code Make = 51
+code Cast = 52
+code Zext = 53
+code Slice = 54
+code Not = 55
+code And = 56
+code Or = 57
+code Xor = 58
+code Add = 59
+code Sub = 60
+code Eq = 61
+code Lt = 62
+code Cat = 63
+code Mux = 64
+
+-- the kind of a word that is no keyword: an operator of expressions, or a name that is none
+unfoldable pub operator_word_kind : List ℕ → Kind
+operator_word_kind word =
+    if bytes_eq word (codes "lit") then Lit
+    else (if bytes_eq word (codes "make") then Make
+    else (if bytes_eq word (codes "cast") then Cast
+    else (if bytes_eq word (codes "zext") then Zext
+    else (if bytes_eq word (codes "slice") then Slice
+    else (if bytes_eq word (codes "not") then Not
+    else (if bytes_eq word (codes "and") then And
+    else (if bytes_eq word (codes "or") then Or
+    else (if bytes_eq word (codes "xor") then Xor
+    else (if bytes_eq word (codes "add") then Add
+    else (if bytes_eq word (codes "sub") then Sub
+    else (if bytes_eq word (codes "eq") then Eq
+    else (if bytes_eq word (codes "lt") then Lt
+    else (if bytes_eq word (codes "cat") then Cat
+    else (if bytes_eq word (codes "mux") then Mux
+    else Name))))))))))))))
 
 -- the kind of a word that is none of the others
 unfoldable pub last_word_kind : List ℕ → Kind
@@ -74,7 +109,7 @@ last_word_kind word =
     else (if bytes_eq word (codes "struct") then Struct
     else (if bytes_eq word (codes "array") then Array
     else (if bytes_eq word (codes "union") then Union
-    else Name)))))))
+    else operator_word_kind word)))))))
 
 -- the kind of a word that stands in no declaration
 unfoldable pub statement_word_kind : List ℕ → Kind
@@ -102,7 +137,7 @@ member_word_kind word =
     else (if bytes_eq word (codes "implement") then Implement
     else statement_word_kind word)))))))
 
--- the kind of a word: each keyword has its own, and every other word is a name
+-- the kind of a word: each keyword has its own, and so has each operator; every other word is a plain name
 unfoldable pub word_kind : List ℕ → Kind
 word_kind word =
     if bytes_eq word (codes "esi") then Esi
@@ -147,34 +182,37 @@ kind_of End = Nothing
 
 -- a keyword or a type word, by its number
 abbrev pub is_reserved : ℕ → Bool
-is_reserved k = k == code TypeWord || nat_le (code Esi) k
+is_reserved k = k == code TypeWord || (nat_le (code Esi) k && nat_le k (code Union))
 
 -- the kinds of numbers
 abbrev pub numbers : Kinds
 numbers = code One ∷ code Small ∷ code Great ∷ []
 
--- what begins an item that is no pipe, by its number
-abbrev pub begins_item : ℕ → Bool
-begins_item k = k == code Bundle || k == code Service || k == code Module || k == code Top
-
 -- the kinds of counts
 abbrev pub counts : Kinds
 counts = code One ∷ code Small ∷ []
 
--- only a name may stand there; numbers that are no kind's say nothing
+-- the operators of two operands
+abbrev pub binaries : Kinds
+binaries = code And ∷ code Or ∷ code Xor ∷ code Add ∷ code Sub ∷ code Eq ∷ code Lt ∷ code Cat ∷ []
+
+-- the kinds of names: operators are not reserved
+abbrev pub names : Kinds
+names = code Name ∷ code Lit ∷ code Make ∷ code Cast ∷ code Zext ∷ code Slice ∷ code Not ∷ code And ∷ code Or ∷ code Xor ∷ code Add ∷ code Sub ∷ code Eq ∷ code Lt ∷ code Cat ∷ code Mux ∷ []
+
+-- only a name may stand there; the kinds above that of `union` are operators, and those that are no kind's say nothing
 abbrev pub are_names : Kinds → Bool
 are_names wanted = among wanted (code Name) && list_all (λ k. k == code Name || nat_lt (code Union) k) wanted
 
 -- The number of the refusal where only these kinds may stand: 206 at the end, a fault's own number, 207 for a keyword or
 -- a type word where only a name may stand, 209 for another number where only the version 1 may, 203 for a number above
--- 2^32 - 1 where only a count may, 219 for what begins another item where a pipe may stand, and 205 for all else.
+-- 2^32 - 1 where only a count may, and 205 for all else.
 unfoldable pub unwanted : Kinds → ℕ → ℕ
 unwanted wanted k =
     if are_names wanted && is_reserved k then 207
     else (if among wanted (code One) && not (among wanted (code Small)) && among numbers k then 209
     else (if among wanted (code Small) && not (among wanted (code Great)) && k == code Great then 203
-    else (if among wanted (code Pipe) && begins_item k then 219
-    else 205)))
+    else 205))
 
 abbrev pub refusal : Kinds → Token → ℕ
 refusal wanted End = 206

@@ -65,3 +65,12 @@ count_small (WidthWord c w) e = omega arith
 count_small (Sign b) e = omega arith
 count_small (Faulty f) e = omega arith
 count_small End e = omega arith
+
+-- the same, where what was read and what is left are told apart
+pub took_gives : {A : Type 0} (wanted : Kinds) (k : ℕ) (view : Lexeme → A) (ts us : List Lexeme) (a : A) → (kind_code (lex.first_token ts) == k) ≡ true
+    → a ≡ view (first_lexeme token_grammar ts) → us ≡ others ts → took token_grammar wanted k view ts ≡ Ok (a, us)
+took_gives wanted k view ts us a e f g = took_made wanted k view ts e ∙ (ap (λ z. Ok (z, others ts)) (sym f) ∙ ap (λ z. Ok (a, z)) (sym g))
+
+pub any_gives : {A : Type 0} (wanted ks : Kinds) (view : Lexeme → A) (ts us : List Lexeme) (a : A) → among ks (kind_code (lex.first_token ts)) ≡ true
+    → a ≡ view (first_lexeme token_grammar ts) → us ≡ others ts → took_any token_grammar wanted ks view ts ≡ Ok (a, us)
+any_gives wanted ks view ts us a e f g = any_made wanted ks view ts e ∙ (ap (λ z. Ok (z, others ts)) (sym f) ∙ ap (λ z. Ok (a, z)) (sym g))

@@ -9,4 +9,4 @@ mod tests;
 mod words;
 
 pub use kind::{Kind, is_same, kind_of};
-pub use reading::{Fault, Halt};
+pub use reading::{Fault, Halt, keep};

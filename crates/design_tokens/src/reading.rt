@@ -1,15 +1,14 @@
 //! The readers of one token. Each goes past the token that it takes, and past none that it refuses.
-ghost use Rattle.std.specs.Prelude.{◌≡◌, [], ◌∷◌};
+ghost use Rattle.std.specs.Prelude.{◌≡◌, [], ◌∷◌, ◌++◌, IfOk, IfErr, OnOk, OnErr};
 ghost use Rattle.grammar_law.specs.Readers.{refused};
 ghost use Rattle.grammar_law.specs.Kinds.{among, first_lexeme};
 ghost use Rattle.design_tokens.specs.Grammar as spec;
 ghost use Rattle.design_tokens.specs.Kinds as kinds;
 ghost use Rattle.design_tokens.specs.declared.reading.Halt.TheVariants.{NoMemory as halt_no_memory};
 
-use crate::kind::{Kind, is_reserved, is_same, kind_of};
-use crate::words::word_kind;
+use crate::kind::{Kind, is_name, is_reserved, is_same, kind_of};
 use esi_base::{List, NoMemory, Octets};
-use esi_lex::{Class, Cursor, Token};
+use esi_lex::{Class, Cursor, Spelling, Token};
 use std::alloc::{AllocError, Global};
 
 /// A refusal's number, and the offset of the first octet of the token that is refused; None at the end.
@@ -46,6 +45,19 @@ impl From<AllocError> for Halt {
     }
 }
 
+/// Adds an item at the end of a list. For want of memory, and for no other cause, it fails and leaves the
+/// list as it was.
+pub fn keep<T: Drop>(items: &mut List<T>, item: T) -> Result<(), Halt>
+    ensures kept { OnOk result (items.new ≡ items.old ++ item ∷ []) }
+    ensures no_memory { IfErr result (λ halt. halt ≡ halt_no_memory) }
+    ensures unchanged { OnErr result (items.new ≡ items.old) }
+{
+    if items.push(item).is_err() {
+        return Err(Halt::NoMemory);
+    }
+    Ok(())
+}
+
 /// The number of the refusal of a token where only one of this kind may stand; `Small` stands for
 /// every count.
 #[tactic(auto, unfolding(crate::specs::Kinds::unwanted))]
@@ -77,7 +89,6 @@ fn unwanted(wanted: Kind, found: Kind) -> u16
         Kind::Name if is_reserved(found) => 207,
         Kind::One if is_number(found) => 209,
         Kind::Small if is_same(found, Kind::Great) => 203,
-        Kind::Pipe if begins_item(found) => 219,
         _ => 205,
     }
 }
@@ -86,16 +97,6 @@ fn is_number(kind: Kind) -> bool
     ensures { result ≡ among kinds.numbers (kinds.code kind) }
 {
     matches!(kind, Kind::One | Kind::Small | Kind::Great)
-}
-
-/// Whether a word of this kind begins an item that is no pipe.
-fn begins_item(kind: Kind) -> bool
-    ensures { result ≡ kinds.begins_item (kinds.code kind) }
-{
-    matches!(
-        kind,
-        Kind::Bundle | Kind::Service | Kind::Module | Kind::Top
-    )
 }
 
 /// The offset of the token that comes next, 0 at the end.
@@ -124,19 +125,66 @@ pub fn expect(cursor: &mut Cursor<'_>, wanted: Kind) -> Result<usize, Halt>
     Ok(end)
 }
 
-/// A name.
-#[tactic(auto, unfolding(grammar_law::specs::Readers::took))]
-pub fn name(cursor: &mut Cursor<'_>, alloc: Global) -> Result<Octets, Halt>
+/// One token of the kind: the offset of its first octet.
+pub fn begin(cursor: &mut Cursor<'_>, wanted: Kind) -> Result<usize, Halt>
+    ensures { spec.AnswersAt (spec.begin wanted cursor.old) result cursor.new }
+{
+    if !is_same(kind_of(cursor.peek()), wanted) {
+        return Err(refuse(cursor, wanted));
+    }
+    let begin = next_begin(cursor);
+    cursor.advance();
+    Ok(begin)
+}
+
+/// The octets of a word, none of any other token.
+fn word_in<'a>(token: &Token<'a>) -> &'a [u8]
+    ensures { result.now ≡ spec.word_in token.now }
+{
+    match token {
+        Token::Word(word) => word.octets(),
+        _ => &[],
+    }
+}
+
+/// The word that comes next: its octets, and the offset of the first one.
+fn next_name(cursor: &Cursor<'_>, alloc: Global) -> Result<(Octets, usize), NoMemory>
+    ensures { IfOk result (λ named. named ≡ spec.named_in (first_lexeme spec.token_grammar cursor.now)) }
+{
+    let octets = List::from_slice(alloc, word_in(cursor.peek()))?;
+    Ok((octets, next_begin(cursor)))
+}
+
+/// A name: its octets, and the offset of the first one.
+pub fn name(cursor: &mut Cursor<'_>, alloc: Global) -> Result<(Octets, usize), Halt>
     ensures { spec.AnswersAt (spec.name cursor.old) result cursor.new }
 {
-    let name = match cursor.peek() {
-        Token::Word(word) if is_same(word_kind(word.octets()), Kind::Name) => {
-            List::from_slice(alloc, word.octets())?
-        }
-        _ => return Err(refuse(cursor, Kind::Name)),
-    };
+    if !is_name(kind_of(cursor.peek())) {
+        return Err(refuse(cursor, Kind::Name));
+    }
+    let name = next_name(cursor, alloc)?;
     cursor.advance();
     Ok(name)
+}
+
+/// The word that comes next, where it stands in the text, and the offset of its first octet.
+fn next_word<'a>(cursor: &Cursor<'a>) -> (Spelling<'a>, usize)
+    ensures { result ≡ spec.named_in (first_lexeme spec.token_grammar cursor.now) }
+{
+    (Spelling::new(word_in(cursor.peek())), next_begin(cursor))
+}
+
+/// An operator of this kind, as a name: its octets, where they stand in the text, and the offset of the
+/// first one.
+pub fn operator<'a>(cursor: &mut Cursor<'a>, wanted: Kind) -> Result<(Spelling<'a>, usize), Halt>
+    ensures { spec.AnswersAt (spec.operator wanted cursor.old) result cursor.new }
+{
+    if !is_same(kind_of(cursor.peek()), wanted) {
+        return Err(refuse(cursor, Kind::Name));
+    }
+    let word = next_word(cursor);
+    cursor.advance();
+    Ok(word)
 }
 
 fn is_count(kind: Kind) -> bool

@@ -1,4 +1,4 @@
-//! The keywords.
+//! The keywords and the operators.
 ghost use Rattle.std.specs.Prelude.{◌≡◌};
 ghost use Rattle.std.specs.Str.{bytes_eq};
 ghost use Rattle.design_tokens.specs.Kinds as spec;
@@ -108,6 +108,46 @@ fn last_word_kind(word: &[u8]) -> Kind
         Kind::Array
     } else if is_word(word, b"union") {
         Kind::Union
+    } else {
+        operator_word_kind(word)
+    }
+}
+
+/// The kind of a word that is no keyword.
+#[tactic(auto, unfolding(crate::specs::Kinds::operator_word_kind))]
+fn operator_word_kind(word: &[u8]) -> Kind
+    ensures { result ≡ spec.operator_word_kind word.now }
+{
+    if is_word(word, b"lit") {
+        Kind::Lit
+    } else if is_word(word, b"make") {
+        Kind::Make
+    } else if is_word(word, b"cast") {
+        Kind::Cast
+    } else if is_word(word, b"zext") {
+        Kind::Zext
+    } else if is_word(word, b"slice") {
+        Kind::Slice
+    } else if is_word(word, b"not") {
+        Kind::Not
+    } else if is_word(word, b"and") {
+        Kind::And
+    } else if is_word(word, b"or") {
+        Kind::Or
+    } else if is_word(word, b"xor") {
+        Kind::Xor
+    } else if is_word(word, b"add") {
+        Kind::Add
+    } else if is_word(word, b"sub") {
+        Kind::Sub
+    } else if is_word(word, b"eq") {
+        Kind::Eq
+    } else if is_word(word, b"lt") {
+        Kind::Lt
+    } else if is_word(word, b"cat") {
+        Kind::Cat
+    } else if is_word(word, b"mux") {
+        Kind::Mux
     } else {
         Kind::Name
     }

@@ -1,5 +1,5 @@
 -- What is read is good: the judges saw each level, and names are tokens of the kind of names.
-use Rattle.std.proofs.Common.{◌≡◌, ◌==◌, ◌+◌, ℕ, zero, suc, Bool, true, false, if◌then◌else◌, List, [], ◌∷◌, ◌++◌, map, drop, refl, sym, subst, arith, add-one, Result, Ok, Err, IfOk}
+use Rattle.std.proofs.Common.{◌≡◌, ◌+◌, ℕ, zero, suc, true, List, [], ◌∷◌, ◌++◌, map, drop, sym, subst, arith, add-one, Result, Ok, Err, IfOk}
 use Rattle.std.specs.Prelude.{All}
 use Rattle.std.proofs.lemmas.List.Elements.{All-nil, All-cons}
 use Rattle.grammar_law.specs.Lexemes.{Lexeme, Lexemes}
@@ -16,6 +16,7 @@ use Rattle.esi_lex.specs.Spellings.{AreSpelled}
 use Rattle.esi_lex.specs.WordTexts.{spelled_first, spelled_second, words_spelled}
 use Rattle.esi_lex.specs.declared.token.Token.{Token}
 use Rattle.design_tokens.specs.declared.kind.Kind.TheVariants.{Comma}
+use Rattle.design_tokens.specs.Kinds.{names}
 use Rattle.design_tokens.specs.Grammar.{kind_code, word_in, number_in, width_in}
 use Rattle.design_tokens.specs.Names.{IsName, name_token}
 use Rattle.channel_types.specs.declared.esi_type.EsiType.{EsiType}
@@ -27,7 +28,8 @@ use Rattle.channel_types.specs.declared.esi_type.Field.{Field}
 use Rattle.channel_types.specs.Types.{name_of, level_names, IsLevel, IsGoodType}
 use Rattle.channel_types.specs.Judged.{level_judged_good}
 use Rattle.channel_types.specs.Goods.{IsGoodWithin, good_bits, good_void, good_struct, good_array, good_deeper, good_type}
-use Rattle.channel_types.specs.TypeGrammar.{types, token, field_rule, struct_rule, array_rule, level_rule, type_rule, type_judge, judge_of, Found, field_in, struct_in, array_in, level_in, type_of}
+use Rattle.design_tokens.specs.Rules.{designs, token, field_rule, struct_rule, array_rule, level_rule, type_rule}
+use Rattle.channel_types.specs.TypeGrammar.{type_judge, judge_of, Found, field_in, struct_in, array_in, level_in, type_of}
 use Rattle.channel_types.specs.TypeAnswers.{IsTypeTree, IsTypeAt, IsTypeText}
 use Rattle.design_tokens.specs.declared.reading.Halt.{Halt}
 use Rattle.design_tokens.specs.Grammar.{AnswersAt}
@@ -40,17 +42,13 @@ level_good ty level e judged names = subst IsLevel e (level_judged_good ty judge
 
 module _ (d : ℕ) (called : ℕ → Tree Token → Type 0) (inner : (t : Tree Token) → called 0 t → AreSpelled (spell t) → IsGoodWithin d (type_of d t).0) where
   -- a name, by its token
-  name_in : (x : Lexeme Token) → among (1 ∷ []) (kind_code x.1) ≡ true → AreSpelled (x ∷ []) → IsName (word_in x.1)
-  name_in x m h = of (kind_code x.1 == 1) refl m
-    where
-      of : (b : Bool) → (kind_code x.1 == 1) ≡ b → (if b then true else false) ≡ true → IsName (word_in x.1)
-      of true e k = name_token x.1 e h.0
-      of false e k = absurd (cc)
+  name_in : (x : Lexeme Token) → among names (kind_code x.1) ≡ true → AreSpelled (x ∷ []) → IsName (word_in x.1)
+  name_in x m h = name_token x.1 m h.0
 
-  call_good : (t : Tree Token) → Fits types (type_judge d) called (call 0) t → AreSpelled (spell t) → IsGoodWithin d (type_of d t).0
+  call_good : (t : Tree Token) → Fits designs (type_judge d) called (call 0) t → AreSpelled (spell t) → IsGoodWithin d (type_of d t).0
   call_good t (fits_call h) s = inner t h s
 
-  field_good : (t : Tree Token) → Fits types (type_judge d) called field_rule t → AreSpelled (spell t) → IsGoodWithin d (field_in (type_of d) t).ty × IsName (name_of (field_in (type_of d) t))
+  field_good : (t : Tree Token) → Fits designs (type_judge d) called field_rule t → AreSpelled (spell t) → IsGoodWithin d (field_in (type_of d) t).ty × IsName (name_of (field_in (type_of d) t))
   field_good t (fits_seq (fits_one {x = x} m) (fits_seq {a = b} {b = u} h k)) s = (
     call_good u k (spelled_second (spell b) (spell u) (spelled_second (x ∷ []) (spell b ++ spell u) s)),
     name_in x m (spelled_first (x ∷ []) (spell b ++ spell u) s),
@@ -63,15 +61,15 @@ module _ (d : ℕ) (called : ℕ → Tree Token → Type 0) (inner : (t : Tree T
   and_field : (f : Field) (fs : List Field) → IsGoodWithin d f.ty × IsName (name_of f) → AreGoodFields fs → AreGoodFields (f ∷ fs)
   and_field f fs h k = (All-cons (λ f. IsGoodWithin d f.ty) f fs h.0 k.0, All-cons IsName (name_of f) (map name_of fs) h.1 k.1)
 
-  fields_good : (t : Tree Token) → Fits types (type_judge d) called (star (token Comma ⟫ field_rule)) t → AreSpelled (spell t) → AreGoodFields (items (λ w. field_in (type_of d) (second w)) t)
+  fields_good : (t : Tree Token) → Fits designs (type_judge d) called (star (token Comma ⟫ field_rule)) t → AreSpelled (spell t) → AreGoodFields (items (λ w. field_in (type_of d) (second w)) t)
   fields_good t fits_last s = (All-nil (λ f. IsGoodWithin d f.ty), All-nil IsName)
   fields_good t (fits_turn {a = b} {t = u} h k) s = and_field _ _ (behind_comma b h (spelled_first (spell b) (spell u) s)) (fields_good u k (spelled_second (spell b) (spell u) s))
     where
-      behind_comma : (w : Tree Token) → Fits types (type_judge d) called (token Comma ⟫ field_rule) w → AreSpelled (spell w)
+      behind_comma : (w : Tree Token) → Fits designs (type_judge d) called (token Comma ⟫ field_rule) w → AreSpelled (spell w)
           → IsGoodWithin d (field_in (type_of d) (second w)).ty × IsName (name_of (field_in (type_of d) (second w)))
       behind_comma w (fits_seq {a = c} {b = v} g k) s = field_good v k (spelled_second (spell c) (spell v) s)
 
-  struct_good : (t : Tree Token) → Fits types (type_judge d) called struct_rule t → AreSpelled (spell t) → judge_of (struct_in (type_of d) (second (second t))).0 ≡ 0
+  struct_good : (t : Tree Token) → Fits designs (type_judge d) called struct_rule t → AreSpelled (spell t) → judge_of (struct_in (type_of d) (second (second t))).0 ≡ 0
       → IsGoodWithin (d + 1) (struct_in (type_of d) (second (second t))).0
   struct_good t (fits_seq (fits_one m1) (fits_seq (fits_one m2) (fits_seq {a = f} {b = b3} h (fits_seq {a = more} {b = b4} k g)))) s j =
       let fields : List Field = field_in (type_of d) f ∷ items (λ w. field_in (type_of d) (second w)) more in
@@ -80,7 +78,7 @@ module _ (d : ℕ) (called : ℕ → Tree Token → Type 0) (inner : (t : Tree T
       let each : AreGoodFields fields = and_field (field_in (type_of d) f) (items (λ w. field_in (type_of d) (second w)) more) first_field others in
       good_struct d fields (level_good (V.Struct fields) (EsiType-F.Struct fields) (outs-Struct fields) j each.1) each.0
 
-  array_good : (t : Tree Token) → Fits types (type_judge d) called array_rule t → AreSpelled (spell t) → judge_of (array_in (type_of d) (second (second t))).0 ≡ 0
+  array_good : (t : Tree Token) → Fits designs (type_judge d) called array_rule t → AreSpelled (spell t) → judge_of (array_in (type_of d) (second (second t))).0 ≡ 0
       → IsGoodWithin (d + 1) (array_in (type_of d) (second (second t))).0
   array_good t (fits_seq (fits_one m1) (fits_seq (fits_one m2) (fits_seq {a = i} {b = b3} h (fits_seq k (fits_seq (fits_one {x = n} m) g))))) s j =
       let item : EsiType = (type_of d i).0 in
@@ -92,29 +90,29 @@ module _ (d : ℕ) (called : ℕ → Tree Token → Type 0) (inner : (t : Tree T
       let level = level_good (V.Bits (width_in x.1).0 (width_in x.1).1) (EsiType-F.Bits (width_in x.1).0 (width_in x.1).1) (outs-Bits (width_in x.1).0 (width_in x.1).1) j (All-nil IsName) in
       good_deeper 1 (d + 1) _ (omega arith) (good_bits (width_in x.1).0 (width_in x.1).1 level.low level.high)
 
-  one_level_good : (t : Tree Token) → Fits types (type_judge d) called level_rule t → AreSpelled (spell t) → judge_of (level_in (type_of d) t).0 ≡ 0 → IsGoodWithin (d + 1) (level_in (type_of d) t).0
+  one_level_good : (t : Tree Token) → Fits designs (type_judge d) called level_rule t → AreSpelled (spell t) → judge_of (level_in (type_of d) t).0 ≡ 0 → IsGoodWithin (d + 1) (level_in (type_of d) t).0
   one_level_good t (fits_left (fits_one {x = x} m)) s j = bits_good x j
   one_level_good t (fits_right (fits_left (fits_one m))) s j = good_deeper 1 (d + 1) V.Void (omega arith) good_void
   one_level_good t (fits_right (fits_right (fits_left {a = u} h))) s j = struct_good u h s j
   one_level_good t (fits_right (fits_right (fits_right {b = u} h))) s j = array_good u h s j
 
-  judged_level_good : (t : Tree Token) → Fits types (type_judge d) called type_rule t → AreSpelled (spell t) → IsGoodWithin (d + 1) (level_in (type_of d) (inside t)).0
+  judged_level_good : (t : Tree Token) → Fits designs (type_judge d) called type_rule t → AreSpelled (spell t) → IsGoodWithin (d + 1) (level_in (type_of d) (inside t)).0
   judged_level_good t (fits_judged {t = u} h j) s = one_level_good u h s j
 
 -- the trees of the rules that are called, with so many levels still to be opened
 abbrev Called : ℕ → ℕ → Tree Token → Type 0
-Called d = TowerTree types all_own type_judge (shut types) NoTree (TooDeep types) d
+Called d = TowerTree designs all_own type_judge (shut designs) NoTree (TooDeep designs) d
 
 -- the type of a tree is good, as deep as the tree
 pub tree_good : (d : ℕ) (t : Tree Token) → IsTypeTree d t → AreSpelled (spell t) → IsGoodWithin d (type_of d t).0
 tree_good zero t h s = absurd h
 tree_good (suc d) t h s = of h s (tree_good d)
   where
-    in_node : (u : Tree Token) → Fits types (type_judge d) (Called d) type_rule u → AreSpelled (spell u) → ((v : Tree Token) → IsTypeTree d v → AreSpelled (spell v) → IsGoodWithin d (type_of d v).0)
+    in_node : (u : Tree Token) → Fits designs (type_judge d) (Called d) type_rule u → AreSpelled (spell u) → ((v : Tree Token) → IsTypeTree d v → AreSpelled (spell v) → IsGoodWithin d (type_of d v).0)
         → IsGoodWithin (suc d) (level_in (type_of d) (inside u)).0
     in_node u f s below = subst (λ n. IsGoodWithin n (level_in (type_of d) (inside u)).0) (add-one d) (judged_level_good d (Called d) below u f s)
 
-    of : NodeOf types (type_judge d) (Called d) 0 t → AreSpelled (spell t) → ((v : Tree Token) → IsTypeTree d v → AreSpelled (spell v) → IsGoodWithin d (type_of d v).0) → IsGoodWithin (suc d) (type_of (suc d) t).0
+    of : NodeOf designs (type_judge d) (Called d) 0 t → AreSpelled (spell t) → ((v : Tree Token) → IsTypeTree d v → AreSpelled (spell v) → IsGoodWithin d (type_of d v).0) → IsGoodWithin (suc d) (type_of (suc d) t).0
     of o s below =
         subst (λ z. IsGoodWithin (suc d) (type_of (suc d) z).0) (sym o.is)
         (in_node o.inner o.fits (subst (λ z. AreSpelled (spell z)) o.is s) below)

@@ -22,20 +22,22 @@ use Rattle.design_tokens.specs.declared.reading.Fault as code_fault
 use Rattle.design_tokens.specs.declared.reading.Halt.{Halt}
 use Rattle.design_tokens.specs.declared.reading.Halt.TheVariants as HaltCases
 use Rattle.channel_types.specs.declared.esi_type.EsiType.{EsiType}
-use Rattle.channel_types.specs.TypeGrammar.{types, type_judge, type_of, Found}
-use Rattle.channel_types.specs.Decided.{type_calls}
+use Rattle.design_tokens.specs.Rules.{designs}
+use Rattle.channel_types.specs.TypeGrammar.{type_judge, type_of, Found}
+use Rattle.design_tokens.specs.Decided.{designs_calls}
 use Rattle.channel_types.specs.TypeAnswers.{IsTypeTree, TypeBreak, IsTypeAt, IsTypeText, refusal_at, StopsToBeType}
 use Rattle.type_reader.specs.TypeReading.{type_at, whole_text, Answers}
-use Rattle.type_reader.specs.TypeLaw.{env, type_seen, told_alike}
+use Rattle.design_tokens.specs.Seen.{told_alike}
+use Rattle.type_reader.specs.TypeLaw.{env, type_seen}
 
-all : (d : ℕ) → Readable types no_judge (TowerTree types all_own type_judge (shut types) NoTree (TooDeep types) d) (TypeBreak d) (env d)
-all d = tower_readable types type_calls all_own type_judge (shut types) NoTree (TooDeep types) (no_base types type_calls) d no_judge
+all : (d : ℕ) → Readable designs no_judge (TowerTree designs all_own type_judge (shut designs) NoTree (TooDeep designs) d) (TypeBreak d) (env d)
+all d = tower_readable designs designs_calls all_own type_judge (shut designs) NoTree (TooDeep designs) (no_base designs designs_calls) d no_judge
 
-call_in : (d : ℕ) (t : Tree Token) → Fits types no_judge (TowerTree types all_own type_judge (shut types) NoTree (TooDeep types) d) (call 0) t → IsTypeTree d t
+call_in : (d : ℕ) (t : Tree Token) → Fits designs no_judge (TowerTree designs all_own type_judge (shut designs) NoTree (TooDeep designs) d) (call 0) t → IsTypeTree d t
 call_in d t (fits_call h) = h
 
 -- no other token may stand behind a whole type
-none_told : AreTold types (code Nothing ∷ []) []
+none_told : AreTold designs (code Nothing ∷ []) []
 unfolding unwanted
 none_told = told_alike (code Nothing ∷ []) [] (λ k. refl)
 
@@ -47,9 +49,9 @@ pub record IsRead (ts : Lexemes Token) (a : Found) (rest : Lexemes Token) : Type
   pub is : a ≡ type_of 16 tree
 
 pub was_read : (ts : Lexemes Token) (a : Found) (rest : Lexemes Token) → type_at 16 ts ≡ Ok (a, rest) → IsRead ts a rest
-was_read ts a rest e = of (front_found types no_judge _ (TypeBreak 16) (env 16) (all 16) (call 0) refl (type_of 16) (type_at 16) (type_seen 16 no_judge) ts a rest e)
+was_read ts a rest e = of (front_found designs no_judge _ (TypeBreak 16) (env 16) (all 16) (call 0) refl (type_of 16) (type_at 16) (type_seen 16 no_judge) ts a rest e)
   where
-    of : IsFrontOf types no_judge (TowerTree types all_own type_judge (shut types) NoTree (TooDeep types) 16) (call 0) (type_of 16) ts a rest → IsRead ts a rest
+    of : IsFrontOf designs no_judge (TowerTree designs all_own type_judge (shut designs) NoTree (TooDeep designs) 16) (call 0) (type_of 16) ts a rest → IsRead ts a rest
     of o = record { tree = o.tree; fits = call_in 16 o.tree o.fits; parts = o.parts; is = o.is }
 
 -- What was read at an offset is the type that stands there, each such type is read, and all else is refused where it
@@ -59,33 +61,33 @@ at_found text at a rest e = let o = was_read (tokens text at) a rest e in record
 
 pub at_only : (text : List ℕ) (at : ℕ) (a : Found) → (o : IsTypeAt text at a) → type_at 16 (tokens text at) ≡ Ok (a, o.rest)
 at_only text at a o =
-    front_only types no_judge _ (TypeBreak 16) (env 16) (all 16) (call 0) refl (type_of 16) (type_at 16) (type_seen 16 no_judge) (tokens text at) a o.rest
+    front_only designs no_judge _ (TypeBreak 16) (env 16) (all 16) (call 0) refl (type_of 16) (type_at 16) (type_seen 16 no_judge) (tokens text at) a o.rest
     (record { tree = o.tree; fits = fits_call o.fits; parts = o.parts; goes_no_further = refl; is = o.is })
 
 pub at_refused : (text : List ℕ) (at : ℕ) (f : Fault) → type_at 16 (tokens text at) ≡ Err f → StopsToBeType text at (refusal_at text f)
 at_refused text at f e = record {
   fault = f;
-  stops = front_refused types no_judge _ (TypeBreak 16) (env 16) (all 16) (call 0) refl (type_of 16) (type_at 16) (type_seen 16 no_judge) (tokens text at) f e;
+  stops = front_refused designs no_judge _ (TypeBreak 16) (env 16) (all 16) (call 0) refl (type_of 16) (type_at 16) (type_seen 16 no_judge) (tokens text at) f e;
   is_told = refl;
 }
 
 -- The same of a whole text.
 pub text_found : (text : List ℕ) (a : Found) → whole_text text ≡ Ok a → IsTypeText text a.0
 text_found text a e =
-    of (found types no_judge _ (TypeBreak 16) (env 16) (all 16) (call 0) refl (type_of 16) (type_at 16) (type_seen 16 no_judge) (code Nothing ∷ []) (λ t. none_told) (tokens text 0) a e)
+    of (found designs no_judge _ (TypeBreak 16) (env 16) (all 16) (call 0) refl (type_of 16) (type_at 16) (type_seen 16 no_judge) (code Nothing ∷ []) (λ t. none_told) (tokens text 0) a e)
   where
-    of : IsTextOf types no_judge (TowerTree types all_own type_judge (shut types) NoTree (TooDeep types) 16) (call 0) (type_of 16) (tokens text 0) a → IsTypeText text a.0
+    of : IsTextOf designs no_judge (TowerTree designs all_own type_judge (shut designs) NoTree (TooDeep designs) 16) (call 0) (type_of 16) (tokens text 0) a → IsTypeText text a.0
     of o = record { tree = o.tree; fits = call_in 16 o.tree o.text.0; parts = o.text.1; is = ap (λ x. x.0) o.is }
 
 pub text_only : (text : List ℕ) (ty : EsiType) → (o : IsTypeText text ty) → whole_text text ≡ Ok (type_of 16 o.tree)
 text_only text ty o =
-    only types no_judge _ (TypeBreak 16) (env 16) (all 16) (call 0) refl (type_of 16) (type_at 16) (type_seen 16 no_judge) (code Nothing ∷ []) (λ t. none_told) (tokens text 0) (type_of 16 o.tree)
+    only designs no_judge _ (TypeBreak 16) (env 16) (all 16) (call 0) refl (type_of 16) (type_at 16) (type_seen 16 no_judge) (code Nothing ∷ []) (λ t. none_told) (tokens text 0) (type_of 16 o.tree)
     (record { tree = o.tree; text = (fits_call o.fits, o.parts); is = refl })
 
 pub text_refused : (text : List ℕ) (f : Fault) → whole_text text ≡ Err f → StopsToBeType text 0 (refusal_at text f)
 text_refused text f e = record {
   fault = f;
-  stops = stops types no_judge _ (TypeBreak 16) (env 16) (all 16) (call 0) refl (type_of 16) (type_at 16) (type_seen 16 no_judge) (code Nothing ∷ []) (λ t. none_told) (tokens text 0) f e;
+  stops = stops designs no_judge _ (TypeBreak 16) (env 16) (all 16) (call 0) refl (type_of 16) (type_at 16) (type_seen 16 no_judge) (code Nothing ∷ []) (λ t. none_told) (tokens text 0) f e;
   is_told = refl;
 }
 

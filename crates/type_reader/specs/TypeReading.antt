@@ -16,7 +16,8 @@ use Rattle.channel_types.specs.declared.esi_type.Field.{Field}
 use Rattle.esi_base.specs.declared.place.Refusal.{Refusal}
 use Rattle.channel_types.specs.declared.esi_type.EsiType.{EsiType}
 use Rattle.channel_types.specs.TypeAnswers.{refusal_at}
-use Rattle.channel_types.specs.TypeGrammar.{types, type_starts, judge_of, Found}
+use Rattle.design_tokens.specs.Rules.{designs, type_starts}
+use Rattle.channel_types.specs.TypeGrammar.{judge_of, Found}
 
 -- a type word
 unfoldable pub bits : Reader Token Found
@@ -32,7 +33,7 @@ module _ (inner : Reader Token Found) where
     n ← name
     expect Colon
     found ← inner
-    pure (record { name = n; ty = found.0 })
+    pure (record { name = n.0; ty = found.0 })
 
   -- one more field behind a comma
   unfoldable pub one_more : List Field → Reader Token (List Field)
@@ -40,7 +41,7 @@ module _ (inner : Reader Token Found) where
 
   -- the first field and all those behind commas
   abbrev pub more_fields : Field → Reader Token (List Field)
-  more_fields f = all_onto types (code Comma ∷ []) one_more (f ∷ [])
+  more_fields f = all_onto designs (code Comma ∷ []) one_more (f ∷ [])
 
   unfoldable pub struct_type : Reader Token Found
   struct_type = do
@@ -63,11 +64,11 @@ module _ (inner : Reader Token Found) where
 
   -- one level of a type
   unfoldable pub level : Reader Token Found
-  level = on types (code TypeWord) bits (on types (code Void) void (on types (code Struct) struct_type array_type))
+  level = on designs (code TypeWord) bits (on designs (code Void) void (on designs (code Struct) struct_type array_type))
 
 -- where no further type may be open
 unfoldable pub too_deep : Reader Token Found
-too_deep ts = if among type_starts (first_kind types ts) then Err (record { number = 103; at = first_place ts }) else refuse types (code TypeWord ∷ []) ts
+too_deep ts = if among type_starts (first_kind designs ts) then Err (record { number = 103; at = first_place ts }) else refuse designs (code TypeWord ∷ []) ts
 
 -- a type, with at most that many open at a place
 unfoldable pub type_at : ℕ → Reader Token Found
@@ -85,7 +86,7 @@ AddsAt read (Err halt) value new = Fails read (told halt)
 
 -- the type of a whole text, and the offset behind it
 abbrev pub whole_text : List ℕ → Result Found Fault
-whole_text text = ended types (code Nothing ∷ []) (type_at 16 (tokens text 0))
+whole_text text = ended designs (code Nothing ∷ []) (type_at 16 (tokens text 0))
 
 -- the code answers so, wherever it left the cursor
 abbrev pub Gives : {A : Type 0} → Read Token A → Result A Halt → Type 0

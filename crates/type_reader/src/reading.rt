@@ -4,7 +4,7 @@ ghost use Rattle.grammar_law.specs.Kinds.{among};
 ghost use Rattle.grammar_law.specs.Readers.{Fails};
 ghost use Rattle.design_tokens.specs.Grammar.{AnswersAt, told};
 ghost use Rattle.design_tokens.specs.Kinds as kinds;
-ghost use Rattle.channel_types.specs.TypeGrammar.{type_starts};
+ghost use Rattle.design_tokens.specs.Rules.{type_starts};
 ghost use Rattle.type_reader.specs.TypeReading as spec;
 
 use crate::judging::judge;
@@ -102,7 +102,7 @@ fn level(cursor: &mut Cursor<'_>, alloc: Global, levels: u32) -> Result<(EsiType
 fn field(cursor: &mut Cursor<'_>, alloc: Global, levels: u32) -> Result<Field, Halt>
     ensures { AnswersAt (spec.field (spec.type_at levels) cursor.old) result cursor.new }
 {
-    let name = name(cursor, alloc)?;
+    let (name, _) = name(cursor, alloc)?;
     expect(cursor, Kind::Colon)?;
     let (ty, _) = type_at(cursor, alloc, levels)?;
     Ok(Field { name, ty })

@@ -1,6 +1,6 @@
 use Rattle.std.proofs.Common.{◌+◌, ◌*◌, [], ◌∷◌, length}
 use Rattle.grammar_law.specs.Turns.{Turning}
-use Rattle.channel_types.specs.TypeGrammar.{types}
+use Rattle.design_tokens.specs.Rules.{designs}
 use Rattle.type_reader.specs.TypeReading as spec
 use Rattle.type_reader.proofs.reading.+a_type.Given as goal
 
@@ -27,7 +27,7 @@ decreases-field l = 6 * l.levels + 1
 
 abbrev pub invariant-more_fields-loop-alloc : goal.invariant-more_fields-loop-alloc
 invariant-more_fields-loop-alloc l =
-    Turning types (8 ∷ []) (spec.one_more (spec.type_at l.levels)) (l.fn.first ∷ []) l.initial.cursor l.fields l.cursor
+    Turning designs (8 ∷ []) (spec.one_more (spec.type_at l.levels)) (l.fn.first ∷ []) l.initial.cursor l.fields l.cursor
 
 abbrev pub decreases-more_fields-loop-alloc : goal.decreases-more_fields-loop-alloc
 decreases-more_fields-loop-alloc l = length l.cursor
