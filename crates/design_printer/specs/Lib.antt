@@ -1,0 +1,8 @@
+pub mod Canonical
+pub mod Examples
+pub mod Added
+pub mod TextFrom
+pub mod CutAgain
+pub mod TextTokens
+pub mod PrintableTypes
+pub mod TypeTexts

@@ -1,0 +1,161 @@
+//! Expressions.
+ghost use Rattle.std.specs.Prelude.{◌≡◌, ◌∷◌, [], map, OnOk};
+ghost use Rattle.std.specs.List.{flat_map};
+ghost use Rattle.esi_lex.specs.declared.token.Token.TheVariants.{Word as word_token};
+ghost use Rattle.design_tree.specs.Tokens.{suffix_tokens, expression_tokens, operator_word, COMMA, OPEN};
+ghost use Rattle.design_printer.specs.Added.{added};
+
+use crate::leaves::{print_name, print_number};
+use crate::printer::Printer;
+use crate::types::print_type;
+use design_tree::{Binary, Expression, Suffix};
+use esi_base::NoMemory;
+
+/// The word of an operator of two operands.
+fn operator_word(operator: Binary) -> &'static [u8]
+    ensures { result.now ≡ operator_word operator }
+{
+    match operator {
+        Binary::And => b"and",
+        Binary::Or => b"or",
+        Binary::Xor => b"xor",
+        Binary::Add => b"add",
+        Binary::Sub => b"sub",
+        Binary::Eq => b"eq",
+        Binary::Lt => b"lt",
+        Binary::Cat => b"cat",
+    }
+}
+
+/// An operator and what opens its operands.
+fn open(printer: &mut Printer, operator: &[u8]) -> Result<(), NoMemory>
+    ensures { OnOk result (printer.new ≡ added (word_token operator.now ∷ OPEN ∷ []) printer.old) }
+{
+    printer.word(operator)?;
+    printer.sign(b'(')
+}
+
+#[tactic(auto, using(crate::proofs::Steps::steps))]
+fn print_suffix(printer: &mut Printer, suffix: &Suffix) -> Result<(), NoMemory>
+    ensures { OnOk result (printer.new ≡ added (suffix_tokens suffix.now) printer.old) }
+{
+    match suffix {
+        Suffix::Field(name) => {
+            printer.sign(b'.')?;
+            print_name(printer, name)?;
+        }
+        Suffix::Element(index) => {
+            printer.sign(b'[')?;
+            print_number(printer, index)?;
+            printer.sign(b']')?;
+        }
+    }
+    Ok(())
+}
+
+#[tactic(auto, using(crate::proofs::Steps::steps))]
+fn print_suffixes(printer: &mut Printer, suffixes: &[Suffix]) -> Result<(), NoMemory>
+    ensures { OnOk result (printer.new ≡ added (flat_map suffix_tokens suffixes.now) printer.old) }
+{
+    for suffix in suffixes {
+        print_suffix(printer, suffix)?;
+    }
+    Ok(())
+}
+
+/// Expressions, each behind a comma.
+#[cycle(an_expression)]
+#[tactic(auto, using(crate::proofs::Steps::steps))]
+fn print_others(printer: &mut Printer, expressions: &[Expression]) -> Result<(), NoMemory>
+    ensures { OnOk result (printer.new ≡ added (flat_map (λ y. COMMA ∷ y) (map expression_tokens expressions.now)) printer.old) }
+{
+    for expression in expressions {
+        printer.sign(b',')?;
+        print_expression(printer, expression)?;
+    }
+    Ok(())
+}
+
+/// Adds an expression: a name, an expression with its suffixes, or an operator with its operands in
+/// parentheses.
+#[cycle(an_expression)]
+#[tactic(auto, using(crate::proofs::Steps::expression_steps))]
+pub fn print_expression(printer: &mut Printer, expression: &Expression) -> Result<(), NoMemory>
+    ensures { OnOk result (printer.new ≡ added (expression_tokens expression.now) printer.old) }
+{
+    match expression {
+        Expression::Variable(name) => print_name(printer, name)?,
+        Expression::Part { of, suffixes } => {
+            print_expression(printer, of.get())?;
+            print_suffixes(printer, suffixes.as_slice())?;
+        }
+        Expression::Literal { ty, value, .. } => {
+            open(printer, b"lit")?;
+            print_type(printer, ty)?;
+            printer.sign(b',')?;
+            print_number(printer, value)?;
+            printer.sign(b')')?;
+        }
+        Expression::Make { ty, parts, .. } => {
+            open(printer, b"make")?;
+            print_type(printer, ty)?;
+            print_others(printer, parts.as_slice())?;
+            printer.sign(b')')?;
+        }
+        Expression::Cast { ty, of, .. } => {
+            open(printer, b"cast")?;
+            print_type(printer, ty)?;
+            printer.sign(b',')?;
+            print_expression(printer, of.get())?;
+            printer.sign(b')')?;
+        }
+        Expression::Zext { width, of, .. } => {
+            open(printer, b"zext")?;
+            print_number(printer, width)?;
+            printer.sign(b',')?;
+            print_expression(printer, of.get())?;
+            printer.sign(b')')?;
+        }
+        Expression::Slice { high, low, of, .. } => {
+            open(printer, b"slice")?;
+            print_number(printer, high)?;
+            printer.sign(b',')?;
+            print_number(printer, low)?;
+            printer.sign(b',')?;
+            print_expression(printer, of.get())?;
+            printer.sign(b')')?;
+        }
+        Expression::Not { of, .. } => {
+            open(printer, b"not")?;
+            print_expression(printer, of.get())?;
+            printer.sign(b')')?;
+        }
+        Expression::Binary {
+            operator,
+            left,
+            right,
+            ..
+        } => {
+            open(printer, operator_word(*operator))?;
+            print_expression(printer, left.get())?;
+            printer.sign(b',')?;
+            print_expression(printer, right.get())?;
+            printer.sign(b')')?;
+        }
+        Expression::Mux {
+            condition,
+            one,
+            zero,
+            ..
+        } => {
+            open(printer, b"mux")?;
+            print_expression(printer, condition.get())?;
+            printer.sign(b',')?;
+            print_expression(printer, one.get())?;
+            printer.sign(b',')?;
+            print_expression(printer, zero.get())?;
+            printer.sign(b')')?;
+        }
+    }
+    Ok(())
+}

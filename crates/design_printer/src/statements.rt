@@ -1,0 +1,174 @@
+//! The statements of a body, and the operations among them.
+ghost use Rattle.std.specs.Prelude.{◌≡◌, map, OnOk};
+ghost use Rattle.design_tree.specs.Tokens.{listed, reference_tokens, operation_tokens, binding_tokens, single_name, statement_tokens};
+ghost use Rattle.design_printer.specs.Added.{added};
+
+use crate::expressions::print_expression;
+use crate::leaves::{print_comma, print_id, print_name, print_number, print_reference};
+use crate::printer::Printer;
+use crate::types::print_type;
+use design_tree::{Binding, Name, Operation, Statement};
+use esi_base::NoMemory;
+
+/// Adds an operation: its word, its numbers, its sources and, where it has one, its body.
+#[tactic(auto, using(crate::proofs::Steps::steps))]
+pub fn print_operation(printer: &mut Printer, operation: &Operation) -> Result<(), NoMemory>
+    ensures { OnOk result (printer.new ≡ added (operation_tokens operation.now) printer.old) }
+{
+    match operation {
+        Operation::Stage(source) => {
+            printer.word(b"stage")?;
+            print_reference(printer, source)?;
+        }
+        Operation::Fork(source) => {
+            printer.word(b"fork")?;
+            print_reference(printer, source)?;
+        }
+        Operation::AsFifo(source) => {
+            printer.word(b"as_fifo")?;
+            print_reference(printer, source)?;
+        }
+        Operation::AsVr(source) => {
+            printer.word(b"as_vr")?;
+            print_reference(printer, source)?;
+        }
+        Operation::Buffer { stages, source } => {
+            printer.word(b"buffer")?;
+            print_number(printer, stages)?;
+            print_reference(printer, source)?;
+        }
+        Operation::Fifo { depth, source } => {
+            printer.word(b"fifo")?;
+            print_number(printer, depth)?;
+            print_reference(printer, source)?;
+        }
+        Operation::Join { left, right } => {
+            printer.word(b"join")?;
+            print_reference(printer, left)?;
+            printer.sign(b',')?;
+            print_reference(printer, right)?;
+        }
+        Operation::Map {
+            source,
+            variable,
+            body,
+        } => {
+            printer.word(b"map")?;
+            print_reference(printer, source)?;
+            printer.sign(b'(')?;
+            print_name(printer, variable)?;
+            printer.sign(b')')?;
+            print_expression(printer, body)?;
+        }
+        Operation::Scan {
+            source,
+            state,
+            ty,
+            initial,
+            variable,
+            body,
+        } => {
+            printer.word(b"scan")?;
+            print_reference(printer, source)?;
+            printer.sign(b'(')?;
+            print_name(printer, state)?;
+            printer.sign(b':')?;
+            print_type(printer, ty)?;
+            printer.sign(b'=')?;
+            print_number(printer, initial)?;
+            printer.sign(b',')?;
+            print_name(printer, variable)?;
+            printer.sign(b')')?;
+            print_expression(printer, body)?;
+        }
+    }
+    Ok(())
+}
+
+#[tactic(auto, using(crate::proofs::Steps::steps))]
+fn print_binding(printer: &mut Printer, binding: &Binding) -> Result<(), NoMemory>
+    ensures { OnOk result (printer.new ≡ added (binding_tokens binding.now) printer.old) }
+{
+    print_name(printer, &binding.port)?;
+    printer.sign(b':')?;
+    print_reference(printer, &binding.source)
+}
+
+#[tactic(auto, using(crate::proofs::Steps::steps))]
+fn print_bindings(printer: &mut Printer, bindings: &[Binding]) -> Result<(), NoMemory>
+    ensures { OnOk result (printer.new ≡ added (listed (map binding_tokens bindings.now)) printer.old) }
+{
+    let mut is_first = true;
+    for binding in bindings {
+        print_comma(printer, is_first)?;
+        is_first = false;
+        print_binding(printer, binding)?;
+    }
+    Ok(())
+}
+
+#[tactic(auto, using(crate::proofs::Steps::steps))]
+fn print_names(printer: &mut Printer, names: &[Name]) -> Result<(), NoMemory>
+    ensures { OnOk result (printer.new ≡ added (listed (map single_name names.now)) printer.old) }
+{
+    let mut is_first = true;
+    for name in names {
+        print_comma(printer, is_first)?;
+        is_first = false;
+        print_name(printer, name)?;
+    }
+    Ok(())
+}
+
+/// Adds a statement, with the `;` behind it.
+#[tactic(auto, using(crate::proofs::Steps::steps))]
+pub fn print_statement(printer: &mut Printer, statement: &Statement) -> Result<(), NoMemory>
+    ensures { OnOk result (printer.new ≡ added (statement_tokens statement.now) printer.old) }
+{
+    match statement {
+        Statement::Request {
+            service,
+            port,
+            id,
+            ..
+        } => {
+            printer.word(b"request")?;
+            print_name(printer, service)?;
+            printer.sign(b'.')?;
+            print_name(printer, port)?;
+            printer.word(b"as")?;
+            print_id(printer, id)?;
+        }
+        Statement::Instance {
+            id,
+            module,
+            bindings,
+            ..
+        } => {
+            printer.word(b"inst")?;
+            print_id(printer, id)?;
+            printer.sign(b'=')?;
+            print_name(printer, module)?;
+            printer.sign(b'(')?;
+            print_bindings(printer, bindings.as_slice())?;
+            printer.sign(b')')?;
+        }
+        Statement::Channels {
+            names,
+            operation,
+            ..
+        } => {
+            printer.word(b"chan")?;
+            print_names(printer, names.as_slice())?;
+            printer.sign(b'=')?;
+            print_operation(printer, operation)?;
+        }
+        Statement::Drive { sink, source, .. } => {
+            printer.word(b"drive")?;
+            print_reference(printer, sink)?;
+            printer.sign(b'=')?;
+            print_reference(printer, source)?;
+        }
+    }
+    printer.sign(b';')
+}
