@@ -1,0 +1,5 @@
+pub mod ExpressionValues
+pub mod ExpressionReading
+pub mod ExpressionTrees
+pub mod ExpressionLaw
+pub mod ExpressionSteps
