@@ -1,0 +1,4 @@
+pub mod StatementValues
+pub mod StatementReading
+pub mod StatementLaw
+pub mod StatementSteps
