@@ -1,0 +1,4 @@
+pub mod DesignValues
+pub mod DesignReading
+pub mod DesignLaw
+pub mod DesignSteps
