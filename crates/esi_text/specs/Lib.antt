@@ -1,9 +1,9 @@
-pub mod DesignAnswers
-pub mod DesignGrammar
-pub mod DesignLaw
-pub mod DesignMeaning
-pub mod DesignNumbers
-pub mod DesignPlaces
-pub mod DesignReading
 pub mod Stimulus
 pub mod StimulusLaws
+pub mod Limits
+pub mod TypesIn
+pub mod TypesGood
+pub mod Designs
+pub mod DesignAnswers
+pub mod DesignNumbers
+pub mod DesignLaws
