@@ -4,3 +4,4 @@ pub mod JudgedLemmas
 pub mod ToldLemmas
 pub mod EndsLemmas
 pub mod UsageLemmas
+pub mod FormatLemmas

@@ -1,12 +1,11 @@
 -- From texts that were read up to their limits to the texts that the files tell.
-use Rattle.std.proofs.Common.{◌≡◌, rules, zero, suc, ℕ, ◌+◌, nat_lt, if◌then◌else◌, Option, Some, None, IfSome, Result, Ok, Err, List, length, take, inl, inr, sym, ◌∙◌, ap, subst, arith}
+use Rattle.std.proofs.Common.{◌≡◌, rules, zero, suc, ℕ, ◌+◌, ◌<◌, nat_lt, if◌then◌else◌, Option, Some, None, IfSome, Result, Ok, Err, List, length, take, inl, inr, sym, ◌∙◌, ap, subst, arith}
 use Rattle.std.proofs.lemmas.List.{length-take, take_all}
 use Rattle.std.proofs.lemmas.Bool.{cases_lt, lt-ltb}
 use Rattle.esi_base.specs.declared.place.Refusal.{Refusal}
 use Rattle.esi_links.specs.Texts.{ReadUpTo}
 use Rattle.cycle_rules.specs.declared.step.Drive.{Drive}
-use Rattle.esi_text.specs.DesignPlaces.{design_of, too_long, told_at}
-use Rattle.esi_text.specs.DesignReading.{whole_text}
+use Rattle.esi_text.specs.Designs.{design_of, design_within, too_long, told_at, whole_text}
 use Rattle.esi_text.specs.Stimulus as stimulus
 use Rattle.esi_text.specs.Stimulus.{stimulus_of, steps_of}
 use Rattle.esi_text.specs.declared.stimulus.Stimulus.{Stimulus}
@@ -29,9 +28,21 @@ cut_text limit text long meaning =
       | inr within ↦ ap (λ t. if nat_lt limit (length t) then long else meaning t) (take_all (limit + 1) text (omega arith))
     ]
 
-design_cut : (text : List ℕ) → design_of (take (1048576 + 1) text) ≡ design_of text
-unfolding design_of
-design_cut text = cut_text 1048576 text (Err too_long) (λ t. told_at t (whole_text t))
+pub design_cut : (text : List ℕ) → design_of (take (1048576 + 1) text) ≡ design_of text
+unfolding design_within
+design_cut text = cut_text 1048576 text (Err too_long) (λ t. told_at t (whole_text 64 t))
+
+long_pipe : (text : List ℕ) → 1048576 < length text → pipe_of text ≡ Err too_long
+unfolding design_within
+long_pipe text above =
+    ap (λ b. (if b then Err too_long else told_at text (whole_text 64 text)) >>= pipe_in text) (lt-ltb 1048576 (length text) above)
+
+pipe_cut : (text : List ℕ) → pipe_of (take (1048576 + 1) text) ≡ pipe_of text
+pipe_cut text =
+    elim (cases_lt 1048576 (length text)) [
+      | inl above ↦ long_pipe (take (1048576 + 1) text) (omega (arith, length-take (1048576 + 1) text)) ∙ sym (long_pipe text above)
+      | inr within ↦ ap pipe_of (take_all (1048576 + 1) text (omega arith))
+    ]
 
 stimulus_cut : (text : List ℕ) → stimulus_of (take (4194304 + 1) text) ≡ stimulus_of text
 unfolding stimulus_of
@@ -42,7 +53,7 @@ stimulus_cut text =
 judged_cut : (design stim d s : List ℕ) → take (1048576 + 1) design ≡ d → take (4194304 + 1) stim ≡ s → judged d s ≡ judged design stim
 unfolding judged
 judged_cut design stim d s p q =
-    ap (λ r. blame 0 (r >>= pipe_in) >>= λ pipe. blame 1 (stimuli_of pipe.0 s) >>= λ ds. let input : Input = record { stages = pipe.1; steps = ds } in Ok input) (sym (ap design_of p) ∙ design_cut design)
+    ap (λ r. blame 0 r >>= λ pipe. blame 1 (stimuli_of pipe.0 s) >>= λ ds. let input : Input = record { stages = pipe.1; steps = ds } in Ok input) (sym (ap pipe_of p) ∙ pipe_cut design)
     ∙ ap (λ r. blame 0 (pipe_of design) >>= λ pipe. blame 1 (r >>= λ read. drives_of pipe.0 read.steps) >>= λ ds. let input : Input = record { stages = pipe.1; steps = ds } in Ok input) (sym (ap stimulus_of q) ∙ stimulus_cut stim)
 
 read_anyway : (meaning : Result Input Blamed) (result : Result Input Ending) → Judges meaning result → JudgesRead meaning result
@@ -109,7 +120,7 @@ first_told : (design : Option (List ℕ)) (d s : List ℕ) (result : Result Inpu
     → IfSome design (λ x. JudgesFirst (pipe_of x) result)
 first_told None d s result p h = tt
 first_told (Some x) d s result p h =
-    subst (λ meaning. JudgesFirst (meaning >>= pipe_in) result) (sym (ap design_of p) ∙ design_cut x) (judges_first d s result h)
+    subst (λ meaning. JudgesFirst meaning result) (sym (ap pipe_of p) ∙ pipe_cut x) (judges_first d s result h)
 
 -- a text that stayed was read as it is told
 pub read_same : (limit : ℕ) (before now : Option (List ℕ)) (octets : List ℕ) → ReadUpTo limit now octets → now ≡ before → ReadUpTo limit before octets

@@ -39,6 +39,12 @@ OnTwo (first ∷ []) P = Unit {0}
 OnTwo (first ∷ second ∷ []) P = P first second
 OnTwo (first ∷ second ∷ third ∷ others) P = Unit {0}
 
+-- a fact of the one name that stands behind a command, where it is one
+abbrev pub OnOne : List (List ℕ) → (List ℕ → Type 0) → Type 0
+OnOne [] P = Unit {0}
+OnOne (first ∷ []) P = P first
+OnOne (first ∷ second ∷ others) P = Unit {0}
+
 -- what was judged is what the texts mean, unless memory ran out
 abbrev pub Judges : Result Input Blamed → Result Input Ending → Type 0
 Judges meaning (Ok input) = meaning ≡ Ok input
@@ -100,9 +106,9 @@ pub record JudgesTold (design stimulus : Option (List ℕ)) (result : Result Inp
   pub first : IfSome design (λ d. JudgesFirst (pipe_of d) result)
   pub possible : CanEnd result
 
--- both files were read, since their texts were judged
-abbrev pub WasJudged : Result Input Ending → Type 0
-WasJudged (Ok input) = Unit {0}
+-- the command's files were read, since their texts were judged
+abbrev pub WasJudged : {A : Type 0} → Result A Ending → Type 0
+WasJudged (Ok judged) = Unit {0}
 WasJudged (Err endings.Done) = ⊥
 WasJudged (Err endings.Usage) = ⊥
 WasJudged (Err (endings.Refused word refusal)) = Unit {0}
@@ -152,14 +158,14 @@ Writes text before now endings.ReadFault = ⊥
 Writes text before now endings.WriteFault = GrowsByFront before now text
 Writes text before now endings.NoMemory = GrowsByFront before now text
 
--- how it ends, where the text is the output of an input: memory may run out before the first octet is written
-abbrev pub Prints : Input → Option (List ℕ) → Option (List ℕ) → Ending → Type 0
-Prints input before now endings.Done = Grows before now (output_of input)
-Prints input before now endings.Usage = ⊥
-Prints input before now (endings.Refused word refusal) = ⊥
-Prints input before now endings.ReadFault = ⊥
-Prints input before now endings.WriteFault = GrowsByFront before now (output_of input)
-Prints input before now endings.NoMemory = (now ≡ before) ⊎ GrowsByFront before now (output_of input)
+-- how it ends, where the text is made first: memory may run out before the first octet is written
+abbrev pub Prints : List ℕ → Option (List ℕ) → Option (List ℕ) → Ending → Type 0
+Prints text before now endings.Done = Grows before now text
+Prints text before now endings.Usage = ⊥
+Prints text before now (endings.Refused word refusal) = ⊥
+Prints text before now endings.ReadFault = ⊥
+Prints text before now endings.WriteFault = GrowsByFront before now text
+Prints text before now endings.NoMemory = (now ≡ before) ⊎ GrowsByFront before now text
 
 -- how `sim` ends, on two files that tell these texts or none
 abbrev pub SimEnds : Option (List ℕ) → Option (List ℕ) → Option (List ℕ) → Option (List ℕ) → Ending → Type 0
@@ -192,12 +198,17 @@ abbrev pub OnSim : List (List ℕ) → (List ℕ → List ℕ → Type 0) → Ty
 OnSim [] P = Unit {0}
 OnSim (command ∷ names) P = command ≡ codes "sim" → OnTwo names P
 
+-- the words `format` and one name
+abbrev pub OnFormat : List (List ℕ) → (List ℕ → Type 0) → Type 0
+OnFormat [] P = Unit {0}
+OnFormat (command ∷ names) P = command ≡ codes "format" → OnOne names P
+
 -- the words behind the command
 abbrev pub names_of : List (List ℕ) → List (List ℕ)
 names_of [] = []
 names_of (command ∷ names) = names
 
--- the words match no row of the command table
+-- The words match no row of the command table: `sim` and two names, `format` and one.
 abbrev pub MatchesNone : List (List ℕ) → Type 0
 MatchesNone [] = Unit {0}
-MatchesNone (command ∷ names) = command ≡ codes "sim" → length names ≡ 2 → ⊥
+MatchesNone (command ∷ names) = (command ≡ codes "sim" → length names ≡ 2 → ⊥) × (command ≡ codes "format" → length names ≡ 1 → ⊥)

@@ -13,8 +13,11 @@ use Rattle.esi_cosim.specs.declared.judge.Input.{Input}
 use Rattle.bit_packing.specs.OctetRules.{judged as unpacked}
 use Rattle.bit_packing.specs.declared.octets.Unpacked.{Unpacked}
 use Rattle.channel_types.specs.declared.esi_type.EsiType.{EsiType}
-use Rattle.esi_text.specs.DesignPlaces.{Meaning, design_of}
-use Rattle.esi_text.specs.declared.design.tree.Number.{Number}
+use Rattle.esi_base.specs.Places.{place_at}
+use Rattle.design_tree.specs.declared.names.Number.{Number}
+use Rattle.design_tree.specs.declared.design.Form.{Form}
+use Rattle.design_tree.specs.declared.design.Form.TheVariants.{Pipe, Parts}
+use Rattle.esi_text.specs.Designs.{design_of}
 use Rattle.esi_text.specs.Stimulus.{stimulus_of}
 use Rattle.esi_text.specs.declared.stimulus.Step.{Step}
 use Rattle.esi_text.specs.declared.stimulus.Step.TheVariants.{Put, Ready, Run}
@@ -25,10 +28,14 @@ abbrev pub ◌>>=◌ : {A B E : Type 0} → Result A E → (A → Result B E) �
 (Ok a) >>= f = f a
 (Err e) >>= f = Err e
 
+-- the refusal of a design that is no pipe
+abbrev pub no_pipe : Refusal
+no_pipe = record { number = 219; place = record { line = 1; column = 1 } }
+
 -- A pipe has 1 to 64 stages.
-abbrev pub stages_in : Number → Result ℕ Refusal
-stages_in stages =
-    if nat_le 1 stages.value && nat_le stages.value 64 then Ok stages.value else Err (record { number = 312; place = stages.place })
+abbrev pub stages_in : List ℕ → Number → Result ℕ Refusal
+stages_in text stages =
+    if nat_le 1 stages.value && nat_le stages.value 64 then Ok stages.value else Err (record { number = 312; place = place_at text stages.at })
 
 -- Octets that are a value of the type are its word; all others are none.
 abbrev pub worded : Place → Result (List Bool) Unpacked → Result (List Bool) Refusal
@@ -57,12 +64,23 @@ drives_of ty (step ∷ steps) = do
   drives ← drives_of ty steps
   Ok (drive ∷ drives)
 
--- The type and the stages of the pipe that a design text means, and the steps that a stimulus means for it.
-abbrev pub pipe_in : Meaning → Result (EsiType × ℕ) Refusal
-pipe_in design = stages_in design.stages >>= λ stages. Ok (design.ty, stages)
+-- how many stages the pipe has that a design is, whose text is this one
+abbrev pub stages_of : List ℕ → Form → Result ℕ Refusal
+stages_of text (Pipe pipe) = stages_in text pipe.stages
+stages_of text (Parts items top) = Err no_pipe
 
+-- the type that it carries
+abbrev pub carried : Form → Result EsiType Refusal
+carried (Pipe pipe) = Ok pipe.ty
+carried (Parts items top) = Err no_pipe
+
+-- both
+abbrev pub pipe_in : List ℕ → Form → Result (EsiType × ℕ) Refusal
+pipe_in text form = stages_of text form >>= λ stages. carried form >>= λ ty. Ok (ty, stages)
+
+-- The pipe that a design text means, and the steps that a stimulus means for it.
 abbrev pub pipe_of : List ℕ → Result (EsiType × ℕ) Refusal
-pipe_of text = design_of text >>= pipe_in
+pipe_of text = design_of text >>= pipe_in text
 
 abbrev pub stimuli_of : EsiType → List ℕ → Result (List Drive) Refusal
 stimuli_of ty text = stimulus_of text >>= λ stimulus. drives_of ty stimulus.steps

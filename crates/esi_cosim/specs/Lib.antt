@@ -1,4 +1,5 @@
 pub mod Ends
+pub mod Formatted
 pub mod Judged
 pub mod Output
 pub mod Statuses

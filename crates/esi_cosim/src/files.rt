@@ -13,7 +13,7 @@ use esi_links::{Files, OutStop, read_whole};
 use std::alloc::Global;
 
 /// The longest design text, in octets.
-const DESIGN_LIMIT: usize = 1_048_576;
+pub const DESIGN_LIMIT: usize = 1_048_576;
 
 /// The longest stimulus, in octets.
 const STIMULUS_LIMIT: usize = 4_194_304;
@@ -53,7 +53,7 @@ pub fn read_input<F: Files>(
 }
 
 /// How a command ends where a file could not be read.
-fn unread(stop: OutStop) -> Ending
+pub fn unread(stop: OutStop) -> Ending
     ensures { result ≡ ending_of_read stop }
 {
     match stop {

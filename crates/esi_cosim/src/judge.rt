@@ -1,17 +1,19 @@
 //! What the texts of a simulation ask for, and which of them is refused.
-ghost use Rattle.std.specs.Prelude.{◌≡◌, ◌≤◌, ◌<◌, ◌^◌, IfOk};
+ghost use Rattle.std.specs.Prelude.{◌≡◌, ◌≤◌, ◌<◌, ◌^◌, All, IfOk};
 ghost use Rattle.std.specs.Str.{bytes_eq};
 ghost use Rattle.esi_base.specs.Reading.{Reads};
 ghost use Rattle.cycle_rules.specs.Stimulated.{cycles_in};
 ghost use Rattle.esi_cosim.specs.Ends.{Judges, CanEnd};
 ghost use Rattle.channel_types.specs.Types.{IsGoodType};
-ghost use Rattle.esi_cosim.specs.Judged.{pipe_of, stimuli_of, stages_in, drive_of, drives_of, word_of, ending_of, judged};
+ghost use Rattle.esi_text.specs.TypesIn.{types_in};
+ghost use Rattle.esi_cosim.specs.Judged.{pipe_of, stages_of, stages_in, carried, no_pipe, stimuli_of, drive_of, drives_of, word_of, ending_of, judged};
 
 use crate::ending::Ending;
 use bit_packing::from_octets;
 use cycle_rules::Drive;
+use design_tree::{Form, Number};
 use esi_base::{List, Place, Refusal, Stop, Word};
-use esi_text::{Number, Step, read_design, read_stimulus};
+use esi_text::{Design, Step, read_design, read_stimulus};
 use esi_types::EsiType;
 use std::alloc::Global;
 
@@ -51,7 +53,8 @@ pub fn judge(alloc: Global, design: &[u8], stimulus: &[u8]) -> Result<Input, End
     }
 }
 
-fn blame(word: u32, stop: Stop) -> Ending
+/// How a command ends where the text at this word behind it stops it.
+pub fn blame(word: u32, stop: Stop) -> Ending
     ensures { result ≡ ending_of word stop }
 {
     match stop {
@@ -66,8 +69,58 @@ fn judge_design(alloc: Global, text: &[u8]) -> Result<(EsiType, u32), Stop>
     ensures good { IfOk result (λ pipe. IsGoodType pipe.0) }
 {
     let design = read_design(alloc, text)?;
-    let stages = stages(design.pipe.stages)?;
-    Ok((design.pipe.ty, stages))
+    let stages = stages(&design)?;
+    let ty = carried(design.form)?;
+    Ok((ty, stages))
+}
+
+/// How many stages the design's pipe has: 1 to 64, else it is refused with 312 at the number. A design
+/// that is no pipe is refused with 219 at 1:1.
+fn stages(design: &Design) -> Result<u32, Stop>
+    ensures { Reads (stages_of design.now.text design.now.form) result }
+{
+    match &design.form {
+        Form::Pipe(pipe) => stages_in(design, pipe.stages),
+        Form::Parts { .. } => Err(no_pipe()),
+    }
+}
+
+fn stages_in(design: &Design, stages: Number) -> Result<u32, Stop>
+    ensures { Reads (stages_in design.now.text stages) result }
+{
+    if 1 <= stages.value && stages.value <= MOST_STAGES {
+        Ok(stages.value as u32)
+    } else {
+        Err(Stop::Refused(Refusal {
+            number: 312,
+            place: design.place(stages.at),
+        }))
+    }
+}
+
+/// The type that a design's pipe carries.
+fn carried(form: Form) -> Result<EsiType, Stop>
+    requires { All IsGoodType (types_in form) }
+    ensures reads { Reads (carried form) result }
+    ensures good { IfOk result IsGoodType }
+{
+    match form {
+        Form::Pipe(pipe) => Ok(pipe.ty),
+        Form::Parts {
+            items: _items,
+            top: _top,
+        } => Err(no_pipe()),
+    }
+}
+
+/// The refusal of a design that is no pipe.
+fn no_pipe() -> Stop
+    ensures { result ≡ Stop.Refused no_pipe }
+{
+    Stop::Refused(Refusal {
+        number: 219,
+        place: Place { line: 1, column: 1 },
+    })
 }
 
 fn judge_stimulus(alloc: Global, ty: &EsiType, text: &[u8]) -> Result<List<Drive>, Stop>
@@ -77,21 +130,6 @@ fn judge_stimulus(alloc: Global, ty: &EsiType, text: &[u8]) -> Result<List<Drive
 {
     let stimulus = read_stimulus(alloc, text)?;
     drives(alloc, ty, stimulus.steps.as_slice())
-}
-
-/// How many stages a pipe has: 1 to 64, else it is refused with 312 at the number.
-fn stages(stages: Number) -> Result<u32, Stop>
-    ensures reads { Reads (stages_in stages) result }
-    ensures bounds { IfOk result (λ stages. stages ≤ 64) }
-{
-    if 1 <= stages.value && stages.value <= MOST_STAGES {
-        Ok(stages.value as u32)
-    } else {
-        Err(Stop::Refused(Refusal {
-            number: 312,
-            place: stages.place,
-        }))
-    }
 }
 
 /// What all steps of a stimulus do to a pipe of values of the type: 224 at a name other than `in` of

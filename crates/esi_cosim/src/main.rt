@@ -3,9 +3,11 @@
 
 mod ending;
 mod files;
+mod format;
 mod judge;
 mod outcome;
 mod output;
+mod printing;
 mod run;
 mod sim;
 mod tell;
@@ -16,6 +18,7 @@ use crate::ending::Ending;
 use crate::tell::end;
 use esi_base::List;
 use esi_links::{DiskFiles, StdSink, SureLinks};
+pub use format::run_format;
 pub use outcome::{Cause, Outcome, Told};
 pub use run::run;
 pub use sim::run_sim;

@@ -6,16 +6,17 @@ ghost use Rattle.esi_links.specs.Texts.{SameTexts};
 ghost use Rattle.cycle_rules.specs.Stimulated.{cycles_in};
 ghost use Rattle.esi_cosim.specs.Output.{output_of};
 ghost use Rattle.esi_cosim.specs.Statuses.{IsStatus, IsJudged, IsSilent, line_told};
-ghost use Rattle.esi_cosim.specs.Ends.{OnTwo, Writes, Prints, SimEnds, EndsJudged, BlamesOne, PrintsAll, PrintsFront, PrintsSome, TellsRefusal, IsPlain, Tells};
+ghost use Rattle.esi_cosim.specs.Ends.{OnTwo, Prints, SimEnds, EndsJudged, BlamesOne, PrintsAll, PrintsFront, PrintsSome, TellsRefusal, IsPlain, Tells};
 
 use crate::ending::Ending;
 use crate::files::read_input;
 use crate::judge::Input;
 use crate::outcome::{Outcome, Told};
 use crate::output::text;
+use crate::printing::write;
 use crate::tell::end;
 use esi_base::{NoMemory, Octets};
-use esi_links::{Files, OutStop, Sink, write_whole};
+use esi_links::{Files, Sink};
 use pipe_cells::simulate;
 use std::alloc::Global;
 
@@ -155,7 +156,7 @@ fn simulate_files<F: Files, O: Sink>(
 /// Simulates an input and prints all of it.
 fn print<O: Sink>(alloc: Global, input: &Input, out: &mut O) -> Ending
     requires { cycles_in input.now.steps < 2 ^ 64 }
-    ensures prints { Prints input.now (O.octets out.old) (O.octets out.new) result }
+    ensures prints { Prints (output_of input.now) (O.octets out.old) (O.octets out.new) result }
     ensures quiet_out { result ≡ Ending.Done → O.faults out.new ≡ O.faults out.old }
     ensures write_fault { result ≡ Ending.WriteFault → Rose (O.faults out.old) (O.faults out.new) }
     ensures outs { O.faults out.old ≤ O.faults out.new }
@@ -173,17 +174,4 @@ fn output(alloc: Global, input: &Input) -> Result<Octets, NoMemory>
 {
     let pipe = simulate(alloc, input.stages, input.steps.as_slice())?;
     text(alloc, &pipe)
-}
-
-fn write<O: Sink>(text: &[u8], out: &mut O) -> Ending
-    ensures writes { Writes text.now (O.octets out.old) (O.octets out.new) result }
-    ensures quiet_out { result ≡ Ending.Done → O.faults out.new ≡ O.faults out.old }
-    ensures write_fault { result ≡ Ending.WriteFault → Rose (O.faults out.old) (O.faults out.new) }
-    ensures outs { O.faults out.old ≤ O.faults out.new }
-{
-    match write_whole(out, text) {
-        Ok(()) => Ending::Done,
-        Err(OutStop::Fault) => Ending::WriteFault,
-        Err(OutStop::NoMemory) => Ending::NoMemory,
-    }
 }

@@ -10,6 +10,8 @@ use std::fmt::Write;
 use std::process::Abort;
 use std::test::Fail;
 
+mod format;
+
 /// The texts of a run, and what it should print, tell and answer.
 #[derive(Drop)]
 struct Row {
@@ -128,10 +130,10 @@ fn simulates_and_refuses(rt: HostRuntime) -> Result<(), Fail> {
         },
         Row {
             design: b"esi 1; top T { }",
-            stimulus: b"",
+            stimulus: b"push in 01",
             status: 2,
             out: b"",
-            err: b"refused design 219 1:8\n",
+            err: b"refused design 219 1:1\n",
         },
         Row {
             design: b"esi 1; pipe array<ui512, 3> stages 65;",
@@ -320,6 +322,8 @@ fn other_words_are_told_the_usage(rt: HostRuntime) -> Result<(), Fail> {
     check_usage(&rt, &["sim"])?;
     check_usage(&rt, &["sim", "design"])?;
     check_usage(&rt, &["sim", "design", "stim", "more"])?;
+    check_usage(&rt, &["format"])?;
+    check_usage(&rt, &["format", "design", "stim"])?;
     check_usage(&rt, &["flood", "0"])?;
     check_usage(&rt, &["--help"])
 }
