@@ -65,7 +65,8 @@ impl Hub {
 
     /// Takes a value for a to-server channel that the hub has: the value joins the end of its ring,
     /// and the journal notes it with the cycle that runs, its connection and its stream. A value that
-    /// is refused changes nothing.
+    /// is refused changes nothing. Memory is asked for only where the session and the ring have a
+    /// place.
     pub fn put(&mut self, channel: u32, conn: u32, stream: u32, word: Word) -> Result<(), PutStop>
         requires { channel < length self.old.to_server }
         ensures put { OnOk result (Puts self.old self.new channel conn stream word) }
@@ -76,6 +77,9 @@ impl Hub {
         ensures no_room { IsErrOf result PutStop.NoRoom
             ↔ ((length self.old.journal.taken < SESSION_VALUES)
             × (length (ring_at self.old.to_server channel) ≡ RING_VALUES)) }
+        ensures no_memory_session { IsErrOf result PutStop.NoMemory → length self.old.journal.taken < SESSION_VALUES }
+        ensures no_memory_room { IsErrOf result PutStop.NoMemory
+            → length (ring_at self.old.to_server channel) < RING_VALUES }
         ensures refused { OnErr result (self.new ≡ self.old) }
     {
         if self.journal.taken.len() >= SESSION_VALUES {
@@ -142,12 +146,14 @@ impl Hub {
     }
 
     /// Hands out the word that stands first in the ring of a to-client channel that the hub has, and
-    /// notes it with the cycle that runs; None exactly where the ring is empty.
+    /// notes it with the cycle that runs; None exactly where the ring is empty. Memory is asked for
+    /// only where a word stands in the ring.
     pub fn hand(&mut self, channel: u32) -> Result<Option<Word>, NoMemory>
         requires { channel < length self.old.to_client }
         ensures word { IfOk result (λ word. word ≡ front_of self.old.to_client channel) }
         ensures handed { IfOk result (λ word. OnSome word (Hands self.old self.new channel)) }
         ensures empty { IfOk result (λ word. IfNone word (self.new ≡ self.old)) }
+        ensures some { OnErr result (0 < length (ring_at self.old.to_client channel)) }
         ensures refused { OnErr result (self.new ≡ self.old) }
     {
         let ring = &mut self.to_client[channel as usize];

@@ -1,4 +1,4 @@
 pub mod GrowthJoined
+pub mod LogJoined
 pub mod LogSteps
-pub mod NotesJoined
 pub mod PieceRead

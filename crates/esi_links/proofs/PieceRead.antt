@@ -1,7 +1,6 @@
 -- How the octets read from a text grow piece by piece, up to the limit or the text's end.
-use Rattle.std.proofs.Common.{◌≡◌, ℕ, ◌+◌, ◌<◌, ◌≤◌, List, [], ◌∷◌, ◌++◌, Option, Some, None, false, nat_lt, length, take, drop, refl, sym, ◌∙◌, ap, append-nil, take_all, length-take-le, length-append, arith, IfSome}
+use Rattle.std.proofs.Common.{◌≡◌, ℕ, ◌+◌, ◌≤◌, List, [], ◌∷◌, ◌++◌, Option, Some, None, length, take, drop, refl, sym, ◌∙◌, append-nil, take_all, length-take-le, length-append, arith, IfSome}
 use Rattle.std.proofs.Math.Seq.{take-add}
-use Rattle.std.proofs.lemmas.Bool.{ltb-true, ltb-false}
 use Rattle.esi_links.specs.Texts.{PieceAt, FrontOf, ReadsOn}
 
 -- a piece behind a front makes a longer front
@@ -15,23 +14,21 @@ front_more (Some text) before piece front read =
 
 -- an empty piece is the end of the text
 front_whole : (told : Option (List ℕ)) (before piece : List ℕ)
-    → FrontOf told before → PieceAt told (length before) piece → nat_lt 0 (length piece) ≡ false
+    → FrontOf told before → PieceAt told (length before) piece → length piece ≡ 0
     → IfSome told (λ text. text ≡ before ++ piece)
 front_whole None before piece front read none = tt
 front_whole (Some text) before [] front read none =
     rw (append-nil before) (sym (take_all (length before) text (read.end refl)) ∙ front.front)
-front_whole (Some text) before (x ∷ piece) front read none =
-    let none' : length (x ∷ piece) ≤ 0 = ltb-false 0 (length (x ∷ piece)) none in absurd (omega arith)
+front_whole (Some text) before (x ∷ piece) front read none = cc
 
 -- one more piece was read
 pub reads_on : (told : Option (List ℕ)) (before into : List ℕ) (count : ℕ)
     → FrontOf told before → PieceAt told (length before) (take count into) → count ≤ length into
-    → ReadsOn (length into) told before (before ++ take count into) (nat_lt 0 count)
+    → ReadsOn count told before (before ++ take count into)
 reads_on told before into count front read most =
     let size : length (take count into) ≡ count = length-take-le count into most in
     record {
       front = record { front = front_more told before (take count into) front read };
-      within = omega (arith, size, length-append before (take count into));
-      longer = λ more. let some : 0 < count = ltb-true 0 count more in omega (arith, size, length-append before (take count into));
-      whole = λ none. front_whole told before (take count into) front read (ap (nat_lt 0) size ∙ none);
+      longer = omega (arith, size, length-append before (take count into));
+      whole = λ none. front_whole told before (take count into) front read (size ∙ none);
     }

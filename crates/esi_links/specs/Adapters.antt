@@ -1,7 +1,26 @@
--- What the adapters of the system count.
-use Rattle.std.specs.Prelude.{ℕ}
+-- What the adapters of the system tell and count.
+use Rattle.std.specs.Prelude.{◌≡◌, ◌≢◌, ℕ, Result, Ok, Err, IfOk, IfErr}
+use Rattle.std.specs.declared.io.Error.{Error}
+use Rattle.std.specs.declared.io.ErrorKind.TheVariants.{OutOfMemory}
+use Rattle.std.specs.IoError.{error_kind}
+use Rattle.esi_links.specs.Counts.{one_more}
 use Rattle.esi_links.specs.declared.disk_files.DiskFiles.{DiskFiles}
 use Rattle.esi_links.specs.declared.std_sink.StdSink.{StdSink}
+use Rattle.esi_links.specs.declared.stop.OutStop.{OutStop}
+use Rattle.esi_links.specs.declared.stop.OutStop.TheVariants.{Fault, NoMemory}
+
+-- what the system answered is told: a value is handed on, out of memory is told for that kind of error alone, and every other
+-- error is a fault
+pub record Tells {T : Type 0} (answer : Result T Error) (result : Result T OutStop) : Type 0 where
+  pub given : IfOk answer (λ value. result ≡ Ok value)
+  pub no_memory : IfErr answer (λ error. error_kind error ≡ OutOfMemory → result ≡ Err NoMemory)
+  pub fault : IfErr answer (λ error. error_kind error ≢ OutOfMemory → result ≡ Err Fault)
+
+-- the count of faults after an answer: one more where it is a fault
+abbrev pub after_answer : {T : Type 0} → ℕ → Result T OutStop → ℕ
+after_answer count (Ok value) = count
+after_answer count (Err Fault) = one_more count
+after_answer count (Err NoMemory) = count
 
 -- how many calls failed
 abbrev pub disk_faults : {R : Type 0} → DiskFiles R → ℕ
@@ -10,3 +29,7 @@ disk_faults files = files.faults
 -- how many writes failed
 abbrev pub std_faults : {W : Type 0} → StdSink W → ℕ
 std_faults sink = sink.faults
+
+-- the writer
+abbrev pub std_writer : {W : Type 0} → StdSink W → W
+std_writer sink = sink.writer

@@ -5,6 +5,7 @@ pub mod Fresh
 pub mod Growth
 pub mod Held
 pub mod LinkLog
+pub mod Noting
 pub mod ReadLog
 pub mod SureLog
 pub mod Texts

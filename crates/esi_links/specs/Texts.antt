@@ -1,5 +1,5 @@
 -- What reading and writing do to the texts that files tell.
-use Rattle.std.specs.Prelude.{◌≡◌, ◌≢◌, Bool, true, false, ℕ, ◌+◌, ◌≤◌, List, Option, length, take, drop, IfSome}
+use Rattle.std.specs.Prelude.{◌≡◌, ◌≢◌, ℕ, ◌+◌, ◌≤◌, List, Option, length, take, drop, IfSome}
 
 -- the piece holds the octets that stand in the text from `at` on, and an empty one is its end
 pub record PieceAt (told : Option (List ℕ)) (at : ℕ) (piece : List ℕ) : Type 0 where
@@ -23,9 +23,8 @@ pub record ReadUpTo (limit : ℕ) (told : Option (List ℕ)) (octets : List ℕ)
 pub record FrontOf (told : Option (List ℕ)) (octets : List ℕ) : Type 0 where
   pub front : IfSome told (λ text. take (length octets) text ≡ octets)
 
--- at most this many octets were read behind a front, with `more` false at the end of the text
-pub record ReadsOn (most : ℕ) (told : Option (List ℕ)) (before now : List ℕ) (more : Bool) : Type 0 where
+-- this many octets were read behind a front, 0 of them at the end of the text
+pub record ReadsOn (count : ℕ) (told : Option (List ℕ)) (before now : List ℕ) : Type 0 where
   pub front : FrontOf told now
-  pub within : length now ≤ length before + most
-  pub longer : more ≡ true → length before + 1 ≤ length now
-  pub whole : more ≡ false → IfSome told (λ text. text ≡ now)
+  pub longer : length now ≡ length before + count
+  pub whole : count ≡ 0 → IfSome told (λ text. text ≡ now)

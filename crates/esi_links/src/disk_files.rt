@@ -1,8 +1,9 @@
 //! Files of the system.
-ghost use Rattle.std.specs.Prelude.{◌≡◌, ◌<◌, ◌≤◌, ℕ, List, Option, None, Bool, false, length, IfOk};
+ghost use Rattle.std.specs.Prelude.{◌≡◌, ◌<◌, ◌≤◌, ℕ, List, Option, None, Bool, false, length, IfOk, OnErr};
 
+use crate::system::{read_from, told, write_to};
 use crate::{Files, OutStop};
-use std::io::{Read, Seek, SeekFrom};
+use std::io::{Seek, SeekFrom};
 use std::{fs, io, rt};
 
 /// Files of the system. They tell nothing of what they hold, and raise one count at each failure.
@@ -37,41 +38,26 @@ impl<R: rt::Files> Files for DiskFiles<R> {
     ghost write_faults = { λ files _. disk_faults files };
 
     fn read(&mut self, name: &str, at: u64, into: &mut [u8]) -> Result<usize, OutStop> {
-        let mut file = match fs::open(&self.runtime, name) {
-            Ok(file) => file,
-            Err(error) if error.kind() == io::ErrorKind::OutOfMemory => {
-                return Err(OutStop::NoMemory);
-            }
-            Err(_error) => {
-                self.faults = self.faults.saturating_add(1);
-                return Err(OutStop::Fault);
-            }
-        };
-        match read_at(&mut file, at, into) {
-            Ok(count) => Ok(count),
-            Err(_error) => {
-                self.faults = self.faults.saturating_add(1);
-                Err(OutStop::Fault)
-            }
-        }
+        told(read_file(&self.runtime, name, at, into), &mut self.faults)
     }
 
     fn write(&mut self, name: &str, octets: &[u8]) -> Result<(), OutStop> {
-        match fs::write(&self.runtime, name, octets) {
-            Ok(()) => Ok(()),
-            Err(error) if error.kind() == io::ErrorKind::OutOfMemory => Err(OutStop::NoMemory),
-            Err(_error) => {
-                self.faults = self.faults.saturating_add(1);
-                Err(OutStop::Fault)
-            }
-        }
+        told(write_file(&self.runtime, name, octets), &mut self.faults)
     }
 }
 
-/// Reads octets of a file from an offset on.
-fn read_at<F: Read + Seek>(file: &mut F, at: u64, into: &mut [u8]) -> io::Result<usize>
-    ensures { IfOk result (λ n. n ≤ length into.new) }
+/// Reads octets of a file from an offset on, at most as many as the system gives at once.
+fn read_file<R: rt::Files>(runtime: &R, name: &str, at: u64, into: &mut [u8]) -> io::Result<usize>
+    ensures bound { IfOk result (λ count. count ≤ length into.new) }
+    ensures kept { OnErr result (into.new ≡ into.old) }
 {
+    let mut file = fs::open(runtime, name)?;
     file.seek(SeekFrom::Start(at))?;
-    file.read(into)
+    read_from(&mut file, into)
+}
+
+/// Puts a text in place of the whole file.
+fn write_file<R: rt::Files>(runtime: &R, name: &str, octets: &[u8]) -> io::Result<()> {
+    let mut file = fs::create(runtime, name)?;
+    write_to(&mut file, octets)
 }

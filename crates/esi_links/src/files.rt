@@ -1,7 +1,8 @@
 //! Files, as a program reaches them.
-ghost use Rattle.std.specs.Prelude.{◌≡◌, ◌≢◌, ℕ, ◌<◌, ◌≤◌, Bool, false, List, Option, length, take, IfOk, OnOk, IfSome, IsSome, IsErrOf};
+ghost use Rattle.std.specs.Prelude.{◌≡◌, ◌≢◌, ℕ, ◌<◌, ◌≤◌, Bool, false, List, Option, length, take, IfOk, OnOk, OnErr, IfSome, IsSome, IsErrOf};
 ghost use Rattle.esi_links.specs.Counts.{Later, HasCauseAt, SameCounts};
-ghost use Rattle.esi_links.specs.ReadLog.{NotesRead};
+ghost use Rattle.esi_links.specs.declared.note.Note.{Note as ReadNote};
+ghost use Rattle.esi_links.specs.ReadLog.{Notes, notes_of};
 ghost use Rattle.esi_links.specs.Texts.{PieceAt, SameTexts, SameElsewhere};
 
 use crate::OutStop;
@@ -17,9 +18,9 @@ pub trait Files {
     /// Whether nothing can be read under a name, so that every read there fails.
     ghost unreadable: { Self → List ℕ → Bool };
 
-    /// The names under which reads were made, in their order, if they are told. A read that failed is
-    /// noted too; one for which memory could not be had is not.
-    ghost log: { Self → Option (List (List ℕ)) };
+    /// The reads that were made, in their order, if they are told. A read that failed is noted too;
+    /// one for which memory could not be had is not.
+    ghost log: { Self → Option (List ReadNote) };
 
     /// How many reads under a name failed.
     ghost read_faults: { Self → List ℕ → ℕ };
@@ -29,7 +30,8 @@ pub trait Files {
 
     /// Reads octets of the file under a name, from the octet at `at`, which counts from 0 and is at
     /// most 67,108,864. Ok(n): the first n places of the piece hold the n octets from `at`; 0 is the
-    /// end of the file. For want of memory the piece and the files are as before.
+    /// end of the file. Where the answer is not Ok, the piece is as before. Only a fault raises a
+    /// count. For want of memory the files are as before.
     fn read(&mut self, name: &str, at: u64, into: &mut [u8]) -> Result<usize, OutStop>
         requires piece { 0 < length into.old }
         requires reach { at ≤ 67108864 }
@@ -38,21 +40,23 @@ pub trait Files {
         ensures readable { OnOk result (unreadable self.old name.now ≡ false) }
         ensures texts { SameTexts (text self.old) (text self.new) }
         ensures unreadables { (other : List ℕ) → unreadable self.new other ≡ unreadable self.old other }
-        ensures log { NotesRead (log self.old) (log self.new) name.now result }
-        ensures quiet { OnOk result (SameCounts (read_faults self.old) (read_faults self.new)) }
+        ensures log { Notes (log self.old) (log self.new) (notes_of name.now at (length into.old) result) }
+        ensures kept { OnErr result (into.new ≡ into.old) }
+        ensures quiet_reads { OnOk result (SameCounts (read_faults self.old) (read_faults self.new)) }
+        ensures quiet_writes { OnOk result (SameCounts (write_faults self.old) (write_faults self.new)) }
         ensures cause { HasCauseAt (read_faults self.old) (read_faults self.new) name.now result }
         ensures writes { Later (write_faults self.old) (write_faults self.new) }
-        ensures no_memory_piece { IsErrOf result OutStop.NoMemory → into.new ≡ into.old }
         ensures no_memory_reads { IsErrOf result OutStop.NoMemory → SameCounts (read_faults self.old) (read_faults self.new) }
         ensures no_memory_writes { IsErrOf result OutStop.NoMemory
             → SameCounts (write_faults self.old) (write_faults self.new) };
 
     /// Puts a text in place of the whole file under a name. After a fault any text may stand under
-    /// that name. For want of memory the files are as before.
+    /// that name. Only a fault raises a count. For want of memory the files are as before.
     fn write(&mut self, name: &str, octets: &[u8]) -> Result<(), OutStop>
         ensures written { OnOk result (IfSome (text self.new name.now) (λ text. text ≡ octets.now)) }
         ensures told { IfSome (text self.old name.now) (λ _. IsSome (text self.new name.now)) }
-        ensures quiet { OnOk result (SameCounts (write_faults self.old) (write_faults self.new)) }
+        ensures quiet_reads { OnOk result (SameCounts (read_faults self.old) (read_faults self.new)) }
+        ensures quiet_writes { OnOk result (SameCounts (write_faults self.old) (write_faults self.new)) }
         ensures elsewhere { SameElsewhere name.now (text self.old) (text self.new) }
         ensures unreadables { (other : List ℕ) → other ≢ name.now → unreadable self.new other ≡ unreadable self.old other }
         ensures log { log self.new ≡ log self.old }

@@ -60,8 +60,9 @@ pub enum Entry {
 
 /// Links: a listener and its connections, or one connection to a server. They tell, where they can,
 /// their log, which is all events, sends and drops, and they count the failures to listen or to
-/// connect and those to tell an event. No count ever falls, and where one stands at its last value,
-/// 2^64 - 1, a failure counts as a rise. One counter may serve for several counts.
+/// connect and those to tell an event. Only a fault raises a count, none ever falls, and where one
+/// stands at its last value, 2^64 - 1, a failure counts as a rise. One counter may serve for several
+/// counts.
 pub trait Links {
     /// The log, if it is told.
     ghost log: { Self → Option (List LogEntry) };
@@ -83,6 +84,8 @@ pub trait Links {
         ensures log { log self.new ≡ log self.old }
         ensures cause { HasLinkCauseAt (open_faults self.old) (open_faults self.new) address.now result }
         ensures nexts { next_faults self.old ≤ next_faults self.new }
+        ensures quiet_opens { OnOk result (SameCounts (open_faults self.old) (open_faults self.new)) }
+        ensures quiet_nexts { OnOk result (next_faults self.new ≡ next_faults self.old) }
         ensures no_memory_opens { IsErrOf result LinkStop.NoMemory
             → SameCounts (open_faults self.old) (open_faults self.new) }
         ensures no_memory_nexts { IsErrOf result LinkStop.NoMemory → next_faults self.new ≡ next_faults self.old };
@@ -95,6 +98,8 @@ pub trait Links {
         ensures log { log self.new ≡ log self.old }
         ensures cause { HasLinkCauseAt (open_faults self.old) (open_faults self.new) address.now result }
         ensures nexts { next_faults self.old ≤ next_faults self.new }
+        ensures quiet_opens { OnOk result (SameCounts (open_faults self.old) (open_faults self.new)) }
+        ensures quiet_nexts { OnOk result (next_faults self.new ≡ next_faults self.old) }
         ensures no_memory_opens { IsErrOf result LinkStop.NoMemory
             → SameCounts (open_faults self.old) (open_faults self.new) }
         ensures no_memory_nexts { IsErrOf result LinkStop.NoMemory → next_faults self.new ≡ next_faults self.old };
@@ -110,6 +115,8 @@ pub trait Links {
         ensures refused { OnErr result (log self.new ≡ log self.old) }
         ensures cause { HasLinkCause (next_faults self.old) (next_faults self.new) result }
         ensures opens { Later (open_faults self.old) (open_faults self.new) }
+        ensures quiet_opens { OnOk result (SameCounts (open_faults self.old) (open_faults self.new)) }
+        ensures quiet_nexts { OnOk result (next_faults self.new ≡ next_faults self.old) }
         ensures no_memory_opens { IsErrOf result LinkStop.NoMemory
             → SameCounts (open_faults self.old) (open_faults self.new) }
         ensures no_memory_nexts { IsErrOf result LinkStop.NoMemory → next_faults self.new ≡ next_faults self.old };
@@ -124,6 +131,8 @@ pub trait Links {
         ensures refused { OnErr result (log self.new ≡ log self.old) }
         ensures opens { Later (open_faults self.old) (open_faults self.new) }
         ensures nexts { next_faults self.old ≤ next_faults self.new }
+        ensures quiet_opens { OnOk result (SameCounts (open_faults self.old) (open_faults self.new)) }
+        ensures quiet_nexts { OnOk result (next_faults self.new ≡ next_faults self.old) }
         ensures no_memory_opens { OnErr result (SameCounts (open_faults self.old) (open_faults self.new)) }
         ensures no_memory_nexts { OnErr result (next_faults self.new ≡ next_faults self.old) };
 
@@ -135,6 +144,8 @@ pub trait Links {
         ensures refused { OnErr result (log self.new ≡ log self.old) }
         ensures opens { Later (open_faults self.old) (open_faults self.new) }
         ensures nexts { next_faults self.old ≤ next_faults self.new }
+        ensures quiet_opens { OnOk result (SameCounts (open_faults self.old) (open_faults self.new)) }
+        ensures quiet_nexts { OnOk result (next_faults self.new ≡ next_faults self.old) }
         ensures no_memory_opens { OnErr result (SameCounts (open_faults self.old) (open_faults self.new)) }
         ensures no_memory_nexts { OnErr result (next_faults self.new ≡ next_faults self.old) };
 

@@ -86,10 +86,11 @@ impl Files for MemoryFiles {
         ensures texts { SameTexts (memory_text self.old) (memory_text self.new) }
         ensures readable { OnOk result (is_none (memory_text self.old name.now) ≡ false) }
         ensures unreadables { (other : List ℕ) → is_none (memory_text self.new other) ≡ is_none (memory_text self.old other) }
-        ensures quiet { OnOk result (SameCounts (memory_read_faults self.old) (memory_read_faults self.new)) }
+        ensures kept { OnErr result (into.new ≡ into.old) }
+        ensures quiet_reads { OnOk result (SameCounts (memory_read_faults self.old) (memory_read_faults self.new)) }
+        ensures quiet_writes { OnOk result (SameCounts (memory_write_faults self.old) (memory_write_faults self.new)) }
         ensures cause { HasCauseAt (memory_read_faults self.old) (memory_read_faults self.new) name.now result }
         ensures writes { Later (memory_write_faults self.old) (memory_write_faults self.new) }
-        ensures no_memory_piece { IsErrOf result OutStop.NoMemory → into.new ≡ into.old }
         ensures no_memory_reads { IsErrOf result OutStop.NoMemory → SameCounts (memory_read_faults self.old) (memory_read_faults self.new) }
         ensures no_memory_writes { IsErrOf result OutStop.NoMemory
             → SameCounts (memory_write_faults self.old) (memory_write_faults self.new) }
@@ -120,7 +121,8 @@ impl Files for MemoryFiles {
     fn write(&mut self, name: &str, octets: &[u8]) -> Result<(), OutStop>
         ensures written { OnOk result (IfSome (memory_text self.new name.now) (λ text. text ≡ octets.now)) }
         ensures told { IfSome (memory_text self.old name.now) (λ _. IsSome (memory_text self.new name.now)) }
-        ensures quiet { OnOk result (SameCounts (memory_write_faults self.old) (memory_write_faults self.new)) }
+        ensures quiet_reads { OnOk result (SameCounts (memory_read_faults self.old) (memory_read_faults self.new)) }
+        ensures quiet_writes { OnOk result (SameCounts (memory_write_faults self.old) (memory_write_faults self.new)) }
         ensures elsewhere { SameElsewhere name.now (memory_text self.old) (memory_text self.new) }
         ensures unreadables { (other : List ℕ) → other ≢ name.now → is_none (memory_text self.new other) ≡ is_none (memory_text self.old other) }
         ensures cause { HasCauseAt (memory_write_faults self.old) (memory_write_faults self.new) name.now result }

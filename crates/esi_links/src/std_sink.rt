@@ -1,6 +1,8 @@
 //! A sink over a writer of the system.
-ghost use Rattle.std.specs.Prelude.{◌≡◌, ◌<◌, ◌≤◌, ℕ, List, Option, None};
+ghost use Rattle.std.specs.Prelude.{◌≡◌, ◌<◌, ◌≤◌, ℕ, List, Option, None, length, IfOk, OnOk, IsErrOf};
+ghost use Rattle.esi_links.specs.Counts.{HasCause};
 
+use crate::system::offer_to;
 use crate::{OutStop, Sink};
 use std::io;
 
@@ -24,20 +26,23 @@ impl<W: io::Write> StdSink<W> {
 }
 
 impl<W: io::Write> Sink for StdSink<W> {
-    ghost use Rattle.esi_links.specs.Adapters.{std_faults};
+    ghost use Rattle.std.specs.Io.KnownBytes.{WriteAppends};
+    ghost use Rattle.esi_links.specs.Adapters.{std_faults, std_writer, after_answer};
 
     ghost octets = { λ _. None };
 
     ghost faults = { λ sink. std_faults sink };
 
-    fn write(&mut self, piece: &[u8]) -> Result<usize, OutStop> {
-        match self.writer.write(piece) {
-            Ok(count) if count > 0 || piece.is_empty() => Ok(count),
-            Err(error) if error.kind() == io::ErrorKind::OutOfMemory => Err(OutStop::NoMemory),
-            _ => {
-                self.faults = self.faults.saturating_add(1);
-                Err(OutStop::Fault)
-            }
-        }
+    /// The octets that the writer holds, where they are known, grow by those that it took.
+    fn write(&mut self, piece: &[u8]) -> Result<usize, OutStop>
+        ensures bound { IfOk result (λ n. n ≤ length piece.now) }
+        ensures some { IfOk result (λ n. 0 < length piece.now → 0 < n) }
+        ensures quiet { OnOk result (std_faults self.new ≡ std_faults self.old) }
+        ensures cause { HasCause (std_faults self.old) (std_faults self.new) result }
+        ensures no_memory { IsErrOf result OutStop.NoMemory → std_faults self.new ≡ std_faults self.old }
+        ensures contents { WriteAppends (W.contents (std_writer self.old)) (W.contents (std_writer self.new)) result piece.now }
+        ensures count { std_faults self.new ≡ after_answer (std_faults self.old) result }
+    {
+        offer_to(&mut self.writer, piece, &mut self.faults)
     }
 }

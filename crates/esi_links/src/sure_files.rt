@@ -71,10 +71,11 @@ impl Files for SureFiles {
         ensures bound { IfOk result (λ n. n ≤ length into.new) }
         ensures octets { IfOk result (λ n. PieceAt (sure_told self.old name.now) at (take n into.new)) }
         ensures texts { SameTexts (sure_told self.old) (sure_told self.new) }
-        ensures quiet { OnOk result (SameCounts (no_faults self.old) (no_faults self.new)) }
+        ensures kept { OnErr result (into.new ≡ into.old) }
+        ensures quiet_reads { OnOk result (SameCounts (no_faults self.old) (no_faults self.new)) }
+        ensures quiet_writes { OnOk result (SameCounts (no_faults self.old) (no_faults self.new)) }
         ensures cause { HasCauseAt (no_faults self.old) (no_faults self.new) name.now result }
         ensures writes { Later (no_faults self.old) (no_faults self.new) }
-        ensures no_memory_piece { IsErrOf result OutStop.NoMemory → into.new ≡ into.old }
         ensures no_memory_reads { IsErrOf result OutStop.NoMemory → SameCounts (no_faults self.old) (no_faults self.new) }
         ensures no_memory_writes { IsErrOf result OutStop.NoMemory → SameCounts (no_faults self.old) (no_faults self.new) }
         ensures answer { result ≡ Ok (count_at (sure_file self.old name.now) at (length into.old)) }
@@ -90,7 +91,8 @@ impl Files for SureFiles {
     fn write(&mut self, name: &str, octets: &[u8]) -> Result<(), OutStop>
         ensures written { OnOk result (IfSome (sure_told self.new name.now) (λ text. text ≡ octets.now)) }
         ensures told { IfSome (sure_told self.old name.now) (λ _. IsSome (sure_told self.new name.now)) }
-        ensures quiet { OnOk result (SameCounts (no_faults self.old) (no_faults self.new)) }
+        ensures quiet_reads { OnOk result (SameCounts (no_faults self.old) (no_faults self.new)) }
+        ensures quiet_writes { OnOk result (SameCounts (no_faults self.old) (no_faults self.new)) }
         ensures elsewhere { SameElsewhere name.now (sure_told self.old) (sure_told self.new) }
         ensures cause { HasCauseAt (no_faults self.old) (no_faults self.new) name.now result }
         ensures reads { Later (no_faults self.old) (no_faults self.new) }

@@ -64,6 +64,8 @@ impl Links for SureLinks {
         ensures log { sure_log_told self.new ≡ sure_log_told self.old }
         ensures cause { HasLinkCauseAt (no_open_faults self.old) (no_open_faults self.new) address.now result }
         ensures nexts { no_next_faults self.old ≤ no_next_faults self.new }
+        ensures quiet_opens { OnOk result (SameCounts (no_open_faults self.old) (no_open_faults self.new)) }
+        ensures quiet_nexts { OnOk result (no_next_faults self.new ≡ no_next_faults self.old) }
         ensures no_memory_opens { IsErrOf result LinkStop.NoMemory
             → SameCounts (no_open_faults self.old) (no_open_faults self.new) }
         ensures no_memory_nexts { IsErrOf result LinkStop.NoMemory → no_next_faults self.new ≡ no_next_faults self.old }
@@ -82,6 +84,8 @@ impl Links for SureLinks {
         ensures log { sure_log_told self.new ≡ sure_log_told self.old }
         ensures cause { HasLinkCauseAt (no_open_faults self.old) (no_open_faults self.new) address.now result }
         ensures nexts { no_next_faults self.old ≤ no_next_faults self.new }
+        ensures quiet_opens { OnOk result (SameCounts (no_open_faults self.old) (no_open_faults self.new)) }
+        ensures quiet_nexts { OnOk result (no_next_faults self.new ≡ no_next_faults self.old) }
         ensures no_memory_opens { IsErrOf result LinkStop.NoMemory
             → SameCounts (no_open_faults self.old) (no_open_faults self.new) }
         ensures no_memory_nexts { IsErrOf result LinkStop.NoMemory → no_next_faults self.new ≡ no_next_faults self.old }
@@ -103,6 +107,8 @@ impl Links for SureLinks {
         ensures refused { OnErr result (sure_log_told self.new ≡ sure_log_told self.old) }
         ensures cause { HasLinkCause (no_next_faults self.old) (no_next_faults self.new) result }
         ensures opens { Later (no_open_faults self.old) (no_open_faults self.new) }
+        ensures quiet_opens { OnOk result (SameCounts (no_open_faults self.old) (no_open_faults self.new)) }
+        ensures quiet_nexts { OnOk result (no_next_faults self.new ≡ no_next_faults self.old) }
         ensures no_memory_opens { IsErrOf result LinkStop.NoMemory
             → SameCounts (no_open_faults self.old) (no_open_faults self.new) }
         ensures no_memory_nexts { IsErrOf result LinkStop.NoMemory → no_next_faults self.new ≡ no_next_faults self.old }
@@ -125,6 +131,8 @@ impl Links for SureLinks {
         ensures refused { OnErr result (sure_log_told self.new ≡ sure_log_told self.old) }
         ensures opens { Later (no_open_faults self.old) (no_open_faults self.new) }
         ensures nexts { no_next_faults self.old ≤ no_next_faults self.new }
+        ensures quiet_opens { OnOk result (SameCounts (no_open_faults self.old) (no_open_faults self.new)) }
+        ensures quiet_nexts { OnOk result (no_next_faults self.new ≡ no_next_faults self.old) }
         ensures no_memory_opens { OnErr result (SameCounts (no_open_faults self.old) (no_open_faults self.new)) }
         ensures no_memory_nexts { OnErr result (no_next_faults self.new ≡ no_next_faults self.old) }
         ensures whole { IfOk result (λ n. n ≡ length octets.now) }
@@ -148,6 +156,8 @@ impl Links for SureLinks {
         ensures refused { OnErr result (sure_log_told self.new ≡ sure_log_told self.old) }
         ensures opens { Later (no_open_faults self.old) (no_open_faults self.new) }
         ensures nexts { no_next_faults self.old ≤ no_next_faults self.new }
+        ensures quiet_opens { OnOk result (SameCounts (no_open_faults self.old) (no_open_faults self.new)) }
+        ensures quiet_nexts { OnOk result (no_next_faults self.new ≡ no_next_faults self.old) }
         ensures no_memory_opens { OnErr result (SameCounts (no_open_faults self.old) (no_open_faults self.new)) }
         ensures no_memory_nexts { OnErr result (no_next_faults self.new ≡ no_next_faults self.old) }
         ensures events { events_left self.new ≡ events_left self.old }

@@ -1,13 +1,16 @@
 //! Each public call once at its work, with ample memory.
 use crate::{
-    Calls, DiskFiles, Entry, Event, Files, LinkStop, Links, MemoryFiles, MemorySink, OutStop, Sink,
-    StdSink, SureFiles, SureLinks, SureSink, read_whole, sure_files_law, sure_links_law,
-    sure_sink_law, write_whole,
+    Calls, DiskFiles, Entry, Event, Files, LinkStop, Links, MemoryFiles, MemorySink, NotingFiles,
+    OutStop, Sink, StdSink, SureFiles, SureLinks, SureSink, read_whole, sure_files_law,
+    sure_links_law, sure_sink_law, write_whole,
 };
 use esi_base::{List, NoMemory, Octets};
 use std::alloc::{AllocError, Global};
 use std::test::Fail;
 use std::{env, fs, io};
+
+/// A device that takes no octets.
+const FULL_DEVICE: &str = "/dev/full";
 
 /// Files in memory, of which the calls with these numbers fail.
 fn memory_files(alloc: Global, reads: &[u64], writes: &[u64]) -> Result<MemoryFiles, AllocError> {
@@ -124,14 +127,10 @@ fn sure_links_tell_their_events_and_then_idle(rt: HostRuntime) -> Result<(), Fai
     assert!(rt; matches!(&links.next(), Ok(Event::Idle)));
     assert_eq!(rt; links.send(0, b"octets"), Ok(6));
     assert_eq!(rt; links.drop_conn(0), Ok(()));
-    Ok(())
-}
-
-#[test]
-fn sure_links_connect(rt: HostRuntime) {
     let mut links = SureLinks::new(rt.alloc(), List::new(rt.alloc()));
     assert_eq!(rt; links.connect("127.0.0.1:0"), Ok(0));
     sure_links_law(&links);
+    Ok(())
 }
 
 #[test]
@@ -146,17 +145,72 @@ fn events_are_copied(rt: HostRuntime) -> Result<(), Fail> {
     Ok(())
 }
 
+/// A text longer than what one call reads, of which no two pieces are alike.
+fn long_text(alloc: Global) -> Result<Vec<u8>, AllocError> {
+    let mut text = Vec::new(alloc);
+    for number in 0..10_000u32 {
+        text.push((number % 251) as u8)?;
+    }
+    Ok(text)
+}
+
 #[test]
-fn disk_files_write_and_read_again(rt: HostRuntime) -> Result<(), Fail> {
+fn files_of_the_system(rt: HostRuntime) -> Result<(), Fail> {
+    let alloc = rt.alloc();
+    let folder = env::temp_dir(&rt)?;
+    let folder = folder.to_str().ok_or("a path that is no text")?;
     let mut name = env::temp_dir(&rt)?;
-    name.push("esi_links_disk_files_test")?;
+    name.push("esi_links_files_of_the_system")?;
     let name = name.to_str().ok_or("a path that is no text")?;
+    let text = long_text(alloc)?;
     let mut files = DiskFiles::new(rt.clone()?);
-    assert_eq!(rt; files.write(name, b"a longer text"), Ok(()));
+    assert_eq!(rt; files.write(name, text.as_slice()), Ok(()));
+    assert!(rt; reads(alloc, &mut files, name, 16_384, text.as_slice()));
     assert_eq!(rt; files.write(name, b"esi 1;"), Ok(()));
-    assert!(rt; reads(rt.alloc(), &mut files, name, 16, b"esi 1;"));
+    assert!(rt; reads(alloc, &mut files, name, 16, b"esi 1;"));
+    assert_eq!(rt; files.write(name, b""), Ok(()));
+    assert!(rt; reads(alloc, &mut files, name, 16, b""));
     fs::remove_file(&rt, name)?;
-    assert!(rt; faults(rt.alloc(), &mut files, name));
+    assert!(rt; faults(alloc, &mut files, name));
+    assert!(rt; faults(alloc, &mut files, folder));
+    assert_eq!(rt; files.write(folder, b"esi 1;"), Err(OutStop::Fault));
+    Ok(())
+}
+
+/// Linux has a device that is always full.
+#[test]
+fn a_full_device(rt: HostRuntime) -> Result<(), Fail> {
+    if fs::open(&rt, FULL_DEVICE).is_ok() {
+        let mut files = DiskFiles::new(rt.clone()?);
+        assert_eq!(rt; files.write(FULL_DEVICE, b"esi 1;"), Err(OutStop::Fault));
+        let mut sink = StdSink::new(fs::create(&rt, FULL_DEVICE)?);
+        assert_eq!(rt; write_whole(&mut sink, b"esi 1;"), Err(OutStop::Fault));
+    }
+    Ok(())
+}
+
+#[test]
+fn noted_reads_tell_what_was_asked_and_found(rt: HostRuntime) -> Result<(), Fail> {
+    let alloc = rt.alloc();
+    let mut held = memory_files(alloc, &[2], &[])?;
+    assert_eq!(rt; held.hold("design", b"esi 1;"), Ok(()));
+    let mut files = NotingFiles::new(alloc, held);
+    assert!(rt; reads(alloc, &mut files, "design", 16, b"esi 1;"));
+    assert!(rt; faults(alloc, &mut files, "stim"));
+    let wanted: [(&str, u64, usize, Option<usize>); 3] = [
+        ("design", 0, 17, Some(6)),
+        ("design", 6, 11, Some(0)),
+        ("stim", 0, 17, None),
+    ];
+    assert_eq!(rt; files.notes().len(), wanted.len());
+    for (note, (name, at, room, count)) in files.notes().iter().zip(&wanted) {
+        assert_eq!(rt; note.name.as_slice(), name.as_bytes());
+        assert_eq!(rt; note.at, *at);
+        assert_eq!(rt; note.room, *room);
+        assert_eq!(rt; note.count, *count);
+    }
+    assert_eq!(rt; files.write("design", b"new"), Ok(()));
+    assert_eq!(rt; files.files().held("design"), Some(b"new".as_slice()));
     Ok(())
 }
 

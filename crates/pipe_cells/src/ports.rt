@@ -1,5 +1,5 @@
 //! The rings of a pipe, one each way, over a hub.
-ghost use Rattle.std.specs.Prelude.{◌≡◌, ◌+◌, ◌-◌, ◌^◌, ◌<◌, [], ◌∷◌, nat_lt, length, true, false, if◌then◌else◌, IfOk, IsErrOf};
+ghost use Rattle.std.specs.Prelude.{◌≡◌, ◌+◌, ◌-◌, ◌^◌, ◌<◌, [], ◌∷◌, nat_lt, length, true, false, if◌then◌else◌, IfOk, OnErr, IsErrOf};
 ghost use Rattle.cycle_rules.specs.Lists.{first};
 ghost use Rattle.cycle_rules.specs.Cycle.{ring_size};
 ghost use Rattle.pipe_cells.specs.Ported.{has_place, with_value, with_taken, with_word, with_hand, with_cycle};
@@ -47,9 +47,12 @@ impl Ports {
     }
 
     /// Takes a value, if the ring and the session have a place for it, and says whether they had.
+    /// Memory is asked for only where they have, and where it cannot be had nothing changes.
     pub fn put(&mut self, word: Word) -> Result<bool, NoMemory>
         ensures place { IfOk result (λ was_put. was_put ≡ has_place self.old) }
         ensures put { IfOk result (λ was_put. self.new ≡ (if was_put then with_value self.old word else self.old)) }
+        ensures no_memory { OnErr result (has_place self.old ≡ true) }
+        ensures refused { OnErr result (self.new ≡ self.old) }
     {
         match self.hub.put(CHANNEL, 0, 0, word) {
             Ok(()) => Ok(true),
@@ -93,9 +96,12 @@ impl Ports {
         }
     }
 
-    /// Hands out the front of the ring on the way out, if there is one and the switch is on.
+    /// Hands out the front of the ring on the way out, if there is one and the switch is on. Memory is
+    /// asked for only there.
     pub fn hand(&mut self, is_on: bool) -> Result<(), NoMemory>
-        ensures { IfOk result (λ _. self.new ≡ with_hand is_on self.old) }
+        ensures handed { IfOk result (λ _. self.new ≡ with_hand is_on self.old) }
+        ensures no_memory_on { OnErr result (is_on ≡ true) }
+        ensures no_memory_some { OnErr result (0 < length self.old.leaving) }
     {
         if is_on {
             self.hand_front()?;
@@ -105,7 +111,8 @@ impl Ports {
 
     /// Hands out the front of the ring on the way out, if there is one.
     fn hand_front(&mut self) -> Result<(), NoMemory>
-        ensures { IfOk result (λ _. self.new ≡ with_hand true self.old) }
+        ensures handed { IfOk result (λ _. self.new ≡ with_hand true self.old) }
+        ensures no_memory { OnErr result (0 < length self.old.leaving) }
     {
         let cycle = self.hub.journal().cycles;
         if let Some(word) = self.hub.hand(CHANNEL)? {

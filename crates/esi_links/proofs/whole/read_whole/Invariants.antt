@@ -1,10 +1,10 @@
 use Rattle.std.proofs.Common.{◌≡◌, ℕ, List, false, length, ◌+◌, ◌-◌, ◌<◌, ◌≤◌}
-use Rattle.esi_links.specs.Counts.{Later, SameCounts}
-use Rattle.esi_links.specs.ReadLog.{NotesOne}
+use Rattle.esi_links.specs.Counts.{SameCounts}
+use Rattle.esi_links.specs.ReadLog.{Noted, AreInRow}
 use Rattle.esi_links.specs.Texts.{FrontOf, SameTexts}
 use Rattle.esi_links.proofs.whole.read_whole.Given as goal
 
--- what was read is the front of the text, at most one octet above the limit
+-- what was read is the front of the text, at most one octet above the limit, by reads in a row
 abbrev pub invariant-loop-piece : goal.invariant-loop-piece
 invariant-loop-piece g l = record {
   front : FrontOf (g.F.Files.text l.fn.files l.name) l.octets;
@@ -12,11 +12,9 @@ invariant-loop-piece g l = record {
   texts : SameTexts (g.F.Files.text l.fn.files) (g.F.Files.text l.files);
   readable : 0 < length l.octets → g.F.Files.unreadable l.fn.files l.name ≡ false;
   unreadables : (other : List ℕ) → g.F.Files.unreadable l.files other ≡ g.F.Files.unreadable l.fn.files other;
-  log : NotesOne 0 (g.F.Files.log l.fn.files) (g.F.Files.log l.files) l.name;
-  log_some : 0 < length l.octets → NotesOne 1 (g.F.Files.log l.fn.files) (g.F.Files.log l.files) l.name;
-  quiet : SameCounts (g.F.Files.read_faults l.fn.files) (g.F.Files.read_faults l.files);
-  reads : Later (g.F.Files.read_faults l.fn.files) (g.F.Files.read_faults l.files);
-  writes : Later (g.F.Files.write_faults l.fn.files) (g.F.Files.write_faults l.files);
+  log : Noted (g.F.Files.log l.fn.files) (g.F.Files.log l.files) (AreInRow l.limit l.name 0 (length l.octets));
+  reads : SameCounts (g.F.Files.read_faults l.fn.files) (g.F.Files.read_faults l.files);
+  writes : SameCounts (g.F.Files.write_faults l.fn.files) (g.F.Files.write_faults l.files);
 }
 
 abbrev pub decreases-loop-piece : goal.decreases-loop-piece
