@@ -1,0 +1,11 @@
+pub mod Work
+pub mod Account
+pub mod Statuses
+pub mod Outside
+pub mod Line
+pub mod Carried
+pub mod Ran
+pub mod WholeText
+pub mod Concluded
+pub mod Pieces
+pub mod Reading
