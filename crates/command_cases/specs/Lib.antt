@@ -1,0 +1,3 @@
+pub mod FoursLeft
+pub mod SmallCommand
+pub mod SmallLaws
