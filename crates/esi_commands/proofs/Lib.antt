@@ -1,0 +1,4 @@
+mod DrivesLemmas
+mod JudgedLemmas
+mod LineLemmas
+mod TableLemmas

@@ -1,0 +1,9 @@
+pub mod Texts
+pub mod Judged
+pub mod Output
+pub mod Cuts
+pub mod Format
+pub mod FormatLaws
+pub mod Sim
+pub mod SimLaws
+pub mod Table

@@ -1,0 +1,66 @@
+//! The top call: one command, from its words to its outcome.
+ghost use Rattle.std.specs.Prelude.{◌≡◌, ◌∷◌, false, map, string_bytes};
+ghost use Rattle.command_runs.specs.Outside.{files_seen, outside, sink_seen};
+ghost use Rattle.esi_commands.specs.Table.{OneRow, RunsWords, table};
+
+use crate::format::run_format;
+use crate::sim::run_sim;
+use command_runs::{Ending, Outcome, conclude};
+use esi_links::{Files, Links, Sink};
+use std::alloc::Global;
+
+/// Runs the command that the words ask for; they are the words behind the program's name. Files are
+/// read and written through `files`, what the command prints goes to `out`, the status's line to
+/// `err`, and connections come over `links`, which are not started.
+pub fn run<F: Files, O: Sink, E: Sink, L: Links>(
+    alloc: Global,
+    words: &[String],
+    files: &mut F,
+    out: &mut O,
+    err: &mut E,
+    links: &mut L,
+) -> Outcome
+    requires { L.started links.old ≡ false }
+
+    // The command whose row the words match was run, or the usage line was written.
+    ensures runs { RunsWords table (map string_bytes words.now)
+        (outside (files_seen (F.text files.old) (F.unreadable files.old) (F.log files.old) (F.read_faults files.old) (F.write_faults files.old))
+        (sink_seen (O.octets out.old) (O.faults out.old)) (sink_seen (E.octets err.old) (E.faults err.old)))
+        (outside (files_seen (F.text files.new) (F.unreadable files.new) (F.log files.new) (F.read_faults files.new) (F.write_faults files.new))
+        (sink_seen (O.octets out.new) (O.faults out.new)) (sink_seen (E.octets err.new) (E.faults err.new))) result }
+    ensures links { links.new ≡ links.old }
+{
+    match words {
+        [command, names @ ..] => run_named(alloc, command.as_str(), names, files, out, err),
+        [] => conclude(alloc, Ending::Usage, None, &[], err),
+    }
+}
+
+/// Runs the command with this word, on the words behind it.
+fn run_named<F: Files, O: Sink, E: Sink>(
+    alloc: Global,
+    command: &str,
+    names: &[String],
+    files: &mut F,
+    out: &mut O,
+    err: &mut E,
+) -> Outcome
+    ensures { RunsWords table (command.now ∷ map string_bytes names.now)
+        (outside (files_seen (F.text files.old) (F.unreadable files.old) (F.log files.old) (F.read_faults files.old) (F.write_faults files.old))
+        (sink_seen (O.octets out.old) (O.faults out.old)) (sink_seen (E.octets err.old) (E.faults err.old)))
+        (outside (files_seen (F.text files.new) (F.unreadable files.new) (F.log files.new) (F.read_faults files.new) (F.write_faults files.new))
+        (sink_seen (O.octets out.new) (O.faults out.new)) (sink_seen (E.octets err.new) (E.faults err.new))) result }
+{
+    if command == "sim" {
+        return run_sim(alloc, names, files, out, err);
+    }
+    if command == "format" {
+        return run_format(alloc, names, files, out, err);
+    }
+    conclude(alloc, Ending::Usage, None, &[], err)
+}
+
+/// No words match two rows of the table of commands.
+pub fn one_row_law()
+    ensures { OneRow table }
+{}

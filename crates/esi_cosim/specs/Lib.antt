@@ -1,5 +1,0 @@
-pub mod Ends
-pub mod Formatted
-pub mod Judged
-pub mod Output
-pub mod Statuses
