@@ -1,0 +1,10 @@
+pub mod ConnectionSums
+pub mod FaultLaws
+pub mod Faults
+pub mod History
+pub mod RowLaws
+pub mod StreamLaws
+pub mod StreamSums
+pub mod Streams
+pub mod WindowLaws
+pub mod Windows
