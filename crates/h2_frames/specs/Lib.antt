@@ -1,0 +1,12 @@
+pub mod AnswerLaws
+pub mod CallLaws
+pub mod Calls
+pub mod Front
+pub mod FrontLaws
+pub mod NextLaws
+pub mod Prefaces
+pub mod Reading
+pub mod StreamLaws
+pub mod Streams
+pub mod WrittenFrames
+pub mod WrittenLaws

@@ -1,0 +1,15 @@
+pub mod Contexts
+pub mod Examples
+pub mod FrameTypes
+pub mod Headers
+pub mod LayoutLaws
+pub mod Layouts
+pub mod Numbers
+pub mod PayloadAnswers
+pub mod PayloadReading
+pub mod Reading
+pub mod RuleLaws
+pub mod Rules
+pub mod Writable
+pub mod Written
+pub mod WrittenLaws
