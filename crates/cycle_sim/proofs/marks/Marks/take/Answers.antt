@@ -1,0 +1,22 @@
+use Rattle.std.proofs.Common.{rules, ◌≡◌, ◌<◌, ◌≤◌, ◌+◌, ◌-◌, ◌++◌, ◌∷◌, [], length, ℕ, Bool, true, false, List, get_or, set, arith, subst, sym, ap, ◌∙◌, Some, None, Option, map, refl, drop, inl, inr}
+use Rattle.std.specs.Prelude.{if◌then◌else◌, not, All, IsTrue}
+use Rattle.netlist.specs.Nets.{Bits, width_at, word_at, result_of, sources, is_computed, is_register, is_input}
+use Rattle.netlist.specs.Settled.{operands, equation, input_place, HaveWidths, IsSettled, AreInputs, AreHeld}
+use Rattle.netlist.specs.Plans.{Plan, net_at, IsPlan, is_register_at, next_of, IsComplete}
+use Rattle.cycle_sim.specs.Changes.{is_marked, is_changed, with_marks, marks_put, is_among, is_evaluated, steps_of}
+use Rattle.cycle_sim.specs.Marks.{IsWithin, IsFirstMark, NoneFrom, found}
+use Rattle.cycle_sim.specs.Wired.{users_at, is_other_at, reads, AreUsers, IsWired, IsInputPlace, AreInputPlaces}
+use Rattle.cycle_sim.specs.Turns.{IsKept, HeldBefore, WaitsFor, HasState, Begun, Turning}
+use Rattle.cycle_sim.proofs.marks.Marks.take.Goals as goal
+use Rattle.cycle_sim.proofs.marks.Marks.take.Goals.{then-from-self, else-from-self}
+
+pub returns-then-place-self-clause-first : goal.returns-then-place-self-clause-first
+returns-then-place-self-clause-first c =
+    let lt : c.first_mark-place.result < c.self.inside.end =
+    elim c.if-from-self.branch [
+      | then-from-self w ↦ let e = ap (λ s. s.end) w.self-inside-is in omega arith
+      | else-from-self w ↦ let e = ap (λ s. s.end) w.self-inside-is in omega arith
+    ] in
+    subst (λ ms. IsFirstMark ms c.args.from c.first_mark-place.result) c.self.view_is
+    (found c.self.inside.flags.items c.deref.result.now c.self.inside.from c.self.inside.end c.args.from c.max.result c.first_mark-place.result c.self.invariant c.deref.ensures.value c.max.ensures lt
+    c.first_mark-place.ensures.from c.first_mark-place.ensures.past c.first_mark-place.ensures.marked c.first_mark-place.ensures.none)

@@ -1,0 +1,13 @@
+pub mod Changes
+pub mod ChangeLaws
+pub mod Clocks
+pub mod CycleLaws
+pub mod Examples
+pub mod Marks
+pub mod Offers
+pub mod Users
+pub mod Wired
+pub mod Passes
+pub mod Simulated
+pub mod Starts
+pub mod Turns

@@ -1,0 +1,72 @@
+//! The clock.
+ghost use Rattle.std.specs.Prelude.{◌≡◌, ◌<◌, ℕ, length};
+ghost use Rattle.netlist.specs.Plans.{IsComplete};
+ghost use Rattle.cycle_sim.specs.Clocks.{AreWords, MarksRegisters, IsCalm, IsCollected, IsReleased};
+ghost use Rattle.cycle_sim.specs.Marks.{NoneFrom};
+ghost use Rattle.cycle_sim.specs.Wired.{IsWired};
+ghost use Rattle.cycle_sim.specs.Turns.{HasState};
+
+use crate::marks::Marks;
+use crate::parts::{State, Wiring};
+use crate::putting::put;
+use crate::values::Values;
+use std::mem;
+
+/// Each register takes the word that its next net had in the cycle before, all at once. Those that do not
+/// wait have it already. `held` is room for words, and `due` for marks.
+pub(crate) fn clock(wiring: &Wiring, state: &mut State, held: &mut Values, due: &mut Marks)
+    requires wired { IsWired wiring.now.net wiring.now.users wiring.now.inputs }
+    requires state { HasState wiring.now.net state.old.values state.old.marks state.old.waiting }
+    requires held { AreWords wiring.now.net held.old }
+    requires due { MarksRegisters wiring.now.net due.old }
+    requires none_due { NoneFrom due.old 0 }
+    requires none_marked { NoneFrom state.old.marks 0 }
+    requires calm { IsCalm wiring.now.net state.old.values state.old.waiting }
+    ensures released { IsReleased wiring.now.net state.old.values state.new.values state.new.marks state.new.waiting (length wiring.now.net.nets) }
+    ensures state { HasState wiring.now.net state.new.values state.new.marks state.new.waiting }
+    ensures held { AreWords wiring.now.net held.new }
+    ensures due { MarksRegisters wiring.now.net due.new }
+    ensures none_due { NoneFrom due.new 0 }
+{
+    mem::swap(&mut state.waiting, due);
+    collect(wiring, &state.values, due, held);
+    release(wiring, state, held, due);
+}
+
+/// Collects the words of the next nets of the registers that are due, each at its register's place.
+fn collect(wiring: &Wiring, values: &Values, due: &Marks, held: &mut Values)
+    requires wired { IsWired wiring.now.net wiring.now.users wiring.now.inputs }
+    requires values { AreWords wiring.now.net values.now }
+    requires held { AreWords wiring.now.net held.old }
+    requires due { MarksRegisters wiring.now.net due.now }
+    ensures held { AreWords wiring.now.net held.new }
+    ensures collected { IsCollected wiring.now.net values.now due.now held.new (length wiring.now.net.nets) }
+{
+    let mut from = 0;
+    while let Some(register) = due.first(from) {
+        let next = wiring.net.next(register as u32);
+        held.put(register, values.word(next as usize));
+        from = register + 1;
+    }
+}
+
+/// Puts the words that were collected at the registers that are due.
+fn release(wiring: &Wiring, state: &mut State, held: &Values, due: &mut Marks)
+    requires wired { IsWired wiring.now.net wiring.now.users wiring.now.inputs }
+    requires state { HasState wiring.now.net state.old.values state.old.marks state.old.waiting }
+    requires held { AreWords wiring.now.net held.now }
+    requires due { MarksRegisters wiring.now.net due.old }
+    requires none_marked { NoneFrom state.old.marks 0 }
+    requires calm { IsCalm wiring.now.net state.old.values due.old }
+    requires collected { IsCollected wiring.now.net state.old.values due.old held.now (length wiring.now.net.nets) }
+    ensures released { IsReleased wiring.now.net state.old.values state.new.values state.new.marks state.new.waiting (length wiring.now.net.nets) }
+    ensures state { HasState wiring.now.net state.new.values state.new.marks state.new.waiting }
+    ensures due { MarksRegisters wiring.now.net due.new }
+    ensures none_due { NoneFrom due.new 0 }
+{
+    let mut from = 0;
+    while let Some(register) = due.take(from) {
+        put(wiring, state, register, held.word(register));
+        from = register + 1;
+    }
+}

@@ -1,0 +1,61 @@
+//! The pass over the nets that have to be evaluated, from the first one on.
+ghost use Rattle.std.specs.Prelude.{◌≡◌, ◌+◌, ◌<◌, ℕ, IsTrue, List, Option, length};
+ghost use Rattle.netlist.specs.Nets.{Bits, width_at, is_computed, result_of};
+ghost use Rattle.netlist.specs.Plans.{net_at, IsComplete};
+ghost use Rattle.netlist.specs.Settled.{operands, HaveWidths};
+ghost use Rattle.cycle_sim.specs.Wired.{IsWired};
+ghost use Rattle.cycle_sim.specs.Turns.{HasState, Turning};
+
+use crate::parts::{State, Wiring};
+use crate::putting::put;
+use crate::values::Values;
+use esi_base::Word;
+use netlist::{Sealed, Sources, Steps};
+use std::sync::ledger::Ledger;
+
+/// Evaluates each marked net, in order, and those that are marked on the way.
+pub(crate) fn settle<L: Ledger>(wiring: &Wiring, state: &mut State, steps: &mut Steps<L>)
+    requires wired { IsWired wiring.now.net wiring.now.users wiring.now.inputs }
+    requires state { HasState wiring.now.net state.old.values state.old.marks state.old.waiting }
+    ensures kept { HasState wiring.now.net state.new.values state.new.marks state.new.waiting }
+    ensures settled { (inputs held : List Bits) (last : Option (List Bits)) (start : ℕ)
+        → Turning wiring.now.net inputs held last start state.old.values state.old.marks state.old.waiting 0 steps.old
+        → Turning wiring.now.net inputs held last start state.new.values state.new.marks state.new.waiting (length wiring.now.net.nets) steps.new }
+{
+    let mut from = 0;
+    while let Some(net) = state.marks.take(from) {
+        let word = fresh(&wiring.net, &state.values, net as u32, steps);
+        put(wiring, state, net, word);
+        from = net + 1;
+    }
+}
+
+/// The word that a net's operator makes of its sources' words, in one step.
+fn fresh<L: Ledger>(net: &Sealed, values: &Values, id: u32, steps: &mut Steps<L>) -> Word
+    requires within { id < length net.now.nets }
+    requires computed { IsTrue (is_computed (net_at net.now.nets id)) }
+    requires count { length values.now ≡ length net.now.nets }
+    requires wide { HaveWidths net.now.widths values.now }
+    ensures word { result ≡ result_of (net_at net.now.nets id) (operands (net_at net.now.nets id) values.now) }
+    ensures width { length result ≡ width_at net.now.widths id }
+    ensures step { steps.new ≡ steps.old + 1 }
+{
+    match net.sources(id) {
+        Sources::None => net.evaluate(id, &[], steps),
+        Sources::One(a) => net.evaluate(id, &[values.word(a as usize)], steps),
+        Sources::Two(a, b) => net.evaluate(
+            id,
+            &[values.word(a as usize), values.word(b as usize)],
+            steps,
+        ),
+        Sources::Three(a, b, c) => net.evaluate(
+            id,
+            &[
+                values.word(a as usize),
+                values.word(b as usize),
+                values.word(c as usize),
+            ],
+            steps,
+        ),
+    }
+}

@@ -1,0 +1,9 @@
+pub mod InputPlaces
+pub mod Nets
+pub mod Plans
+pub mod PlanLaws
+pub mod Settled
+pub mod SettledLaws
+pub mod Reading
+pub mod Runs
+pub mod Sources
