@@ -1,0 +1,12 @@
+pub mod ElementLemmas
+pub mod Elements
+pub mod Examples
+pub mod ForkLemmas
+pub mod Histories
+pub mod JoinLemmas
+pub mod Laws
+pub mod PassingLemmas
+pub mod SignalLemmas
+pub mod Signals
+pub mod StorageLemmas
+pub mod Streams

@@ -1,0 +1,13 @@
+pub mod BalanceLemmas
+pub mod DrainLemmas
+pub mod Examples
+pub mod FallLemmas
+pub mod ForkFalls
+pub mod LineLemmas
+pub mod Load
+pub mod LoadLaws
+pub mod RingLemmas
+pub mod Rings
+pub mod RowFalls
+pub mod RunLoadLemmas
+pub mod WeightLemmas

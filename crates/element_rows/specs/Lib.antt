@@ -1,0 +1,10 @@
+pub mod Examples
+pub mod Flat
+pub mod FlowLaws
+pub mod RestLemmas
+pub mod RowLemmas
+pub mod Rows
+pub mod Signalling
+pub mod SignallingLemmas
+pub mod StreamLemmas
+pub mod SumLemmas

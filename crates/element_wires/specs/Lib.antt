@@ -1,0 +1,5 @@
+pub mod Examples
+pub mod FifoLemmas
+pub mod WireLaws
+pub mod WireLemmas
+pub mod Wires
