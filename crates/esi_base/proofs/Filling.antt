@@ -10,9 +10,6 @@ pub record AreFirstLimbs (limbs : List ℕ) (n i : ℕ) : Type 0 where
   pub count : length limbs ≡ 16
   pub first : (k : ℕ) → k < i → get_or limbs k 0 ≡ part 64 n k
 
-pub first_limbs_none : (limbs : List ℕ) (n : ℕ) → length limbs ≡ 16 → AreFirstLimbs limbs n 0
-first_limbs_none limbs n h = record { count = h; first = λ k l. absurd (omega arith) }
-
 pub first_limbs_more : (limbs : List ℕ) (n i v : ℕ) → i < 16 → v ≡ part 64 n i → AreFirstLimbs limbs n i → AreFirstLimbs (set limbs i v) n (i + 1)
 first_limbs_more limbs n i v l e h = record {
   count = length-set limbs i v ∙ h.count;

@@ -1,12 +1,11 @@
 -- Laws of lists of bits: numbers of lists that are joined, cut or taken bit by bit.
 use Rattle.std.specs.Prelude.{◌≡◌, ℕ, zero, suc, ◌+◌, ◌-◌, ◌*◌, ◌/◌, ◌%◌, ◌^◌, ◌<◌, ◌≤◌, ◌==◌, ◌&&◌, ◌||◌, Bool, true, false, not, List, [], ◌∷◌, ◌++◌, length, map, replicate, take, drop, slice_get, slice_range, Some, bit_and, bit_or, bit_xor, ◌↔◌, refl}
-use Rattle.std.specs.Bool.{xor, one_answer}
+use Rattle.std.specs.Bool.{xor}
 use Rattle.std.specs.Cmp.{booleans_Decides}
 use Rattle.std.specs.Cmp.Lexicographic.{pointwise_decides}
 use Rattle.std.proofs.Common.{sym, ◌∙◌, ap, arith}
 use Rattle.std.proofs.lemmas.Nat.{shr-shr, pow_pos, pow-add, mul-le, field_of, shr_high, mod_low, and_shr, and_mod, or_shr, or_mod, xor_shr, xor_mod}
 use Rattle.std.proofs.lemmas.Option.{same_Some}
-use Rattle.std.proofs.lemmas.Bool.{eqb-true, eq-eqb}
 use Rattle.std.proofs.Math.Pow.{mod-mod-pow}
 use Rattle.std.proofs.Math.Nat.{mul_comm, mul_assoc, mul-add, pow-suc, suc-mul}
 use Rattle.esi_base.specs.Bits.{bit_value, number_of, bits_of, zip_bits, same_bits, length-bits_of}
@@ -199,12 +198,6 @@ pub length-zip_bits : (f : Bool → Bool → Bool) (xs ys : List Bool) → lengt
 length-zip_bits f [] ys h = refl
 length-zip_bits f (x ∷ xs) [] h = absurd (omega arith)
 length-zip_bits f (x ∷ xs) (y ∷ ys) h = ap suc (length-zip_bits f xs ys (omega arith))
-
--- of two lists as long as each other the test is one of their numbers
-pub same_bits-number_of : (xs ys : List Bool) → length xs ≡ length ys → same_bits xs ys ≡ (number_of xs == number_of ys)
-same_bits-number_of xs ys h =
-    one_answer {P = xs ≡ ys} (same_bits xs ys) (number_of xs == number_of ys) (same_bits-true xs ys)
-    (λ t. same_from_number_of xs ys h (eqb-true (number_of xs) (number_of ys) t), λ e. eq-eqb (number_of xs) (number_of ys) (ap number_of e))
 
 -- a list of one bit is known by it
 pub one_bit : (bits : List Bool) (b : Bool) → length bits ≡ 1 → slice_get bits 0 ≡ Some b → bits ≡ b ∷ []

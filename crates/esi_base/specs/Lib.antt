@@ -1,9 +1,9 @@
+pub mod Answers
 pub mod BitLists
 pub mod Bits
 pub mod Limbs
 pub mod Octets
 pub mod Parts
 pub mod Places
-pub mod Reading
 pub mod WordInverse
 pub mod Words

@@ -3,6 +3,7 @@ ghost use Rattle.std.specs.Prelude.{◌≡◌, ◌<◌, ◌≤◌, ◌++◌, ◌
 ghost use Rattle.std.specs.Option.{option_copied};
 ghost use Rattle.std.specs.Coded.{coded_list};
 
+use crate::stop::NoMemory;
 use std::alloc::{AllocError, Global};
 use std::marker::Model;
 use std::mem;
@@ -34,7 +35,7 @@ impl<T> List<T> {
         }
     }
 
-    /// Adds an item at the end. For want of memory, and for no other cause, it hands the item back
+    /// Adds an item at the end. It fails only when it runs out of memory, and then hands the item back
     /// and leaves the list as it was.
     pub fn push(&mut self, item: T) -> Result<(), T>
         ensures pushed { OnOk result (self.new ≡ self.old ++ item ∷ []) }
@@ -45,6 +46,16 @@ impl<T> List<T> {
             Ok(()) => Ok(()),
             Err(failed) => Err(failed.value),
         }
+    }
+
+    /// Adds an item at the end, as `push` does, and lets it go where it runs out of memory.
+    pub fn add(&mut self, item: T) -> Result<(), NoMemory>
+    where
+        T: Drop,
+        ensures added { OnOk result (self.new ≡ self.old ++ item ∷ []) }
+        ensures unchanged { OnErr result (self.new ≡ self.old) }
+    {
+        Ok(self.items.push(item)?)
     }
 
     /// How many items there are.
@@ -61,7 +72,7 @@ impl<T> List<T> {
         self.items.is_empty()
     }
 
-    /// The item at a place, which counts from 0; None exactly at a place not below the length.
+    /// The item at an index; None exactly at an index not below the length.
     pub fn get(&self, at: usize) -> Option<&T>
         ensures { option_copied result ≡ slice_get self.now at }
     {
@@ -75,7 +86,7 @@ impl<T> List<T> {
         self.items.as_slice()
     }
 
-    /// Puts an item at a place below the length, and hands out the one that was there.
+    /// Puts an item at an index below the length, and hands out the one that was there.
     pub fn set(&mut self, at: usize, item: T) -> T
         requires { at < length self.old }
         ensures old_item { slice_get self.old at ≡ Some result }
@@ -119,8 +130,8 @@ impl<T: Copy> List<T> {
         })
     }
 
-    /// Adds the items of a slice, copied, at the end. For want of memory, and for no other cause, it
-    /// fails and leaves the list as it was.
+    /// Adds the items of a slice, copied, at the end. It fails only when it runs out of memory, and then
+    /// leaves the list as it was.
     pub fn push_all(&mut self, items: &[T]) -> Result<(), AllocError>
         ensures pushed { OnOk result (self.new ≡ self.old ++ items.now) }
         ensures unchanged { OnErr result (self.new ≡ self.old) }

@@ -1,8 +1,5 @@
-//! Where a text was refused, and why a call stopped.
+//! Where a text was refused, and by which rule.
 ghost use Rattle.std.specs.Prelude.{◌≡◌, ◌≤◌, ◌<◌, ◌-◌, ◌^◌, length};
-ghost use Rattle.esi_base.specs.declared.place.Stop.TheVariants.{NoMemory as stop_no_memory};
-
-use std::alloc::{AllocError, AllocFailed};
 
 /// A place in a text. Line and column count from 1, and a column counts octets.
 #[derive(Clone, Copy, Debug, PartialEq, Eq)]
@@ -44,53 +41,4 @@ pub struct Refusal {
     pub number: u16,
     /// Where the text breaks it.
     pub place: Place,
-}
-
-/// Memory could not be had.
-#[derive(Clone, Copy, Debug, PartialEq, Eq)]
-pub struct NoMemory;
-
-/// Why a reader of a text stopped.
-#[derive(Clone, Copy, Debug, PartialEq, Eq)]
-pub enum Stop {
-    /// The text is refused.
-    Refused(Refusal),
-    /// Memory could not be had.
-    NoMemory,
-}
-
-impl From<AllocError> for NoMemory {
-    fn from(_error: AllocError) -> NoMemory {
-        NoMemory
-    }
-}
-
-impl<T: Drop> From<AllocFailed<T>> for NoMemory {
-    fn from(_failed: AllocFailed<T>) -> NoMemory {
-        NoMemory
-    }
-}
-
-impl From<AllocError> for Stop {
-    ghost from_gives = { λ _ e. e ≡ stop_no_memory };
-
-    fn from(_error: AllocError) -> Stop {
-        Stop::NoMemory
-    }
-}
-
-impl From<NoMemory> for Stop {
-    ghost from_gives = { λ _ e. e ≡ stop_no_memory };
-
-    fn from(_error: NoMemory) -> Stop {
-        Stop::NoMemory
-    }
-}
-
-impl<T: Drop> From<AllocFailed<T>> for Stop {
-    ghost from_gives = { λ _ e. e ≡ stop_no_memory };
-
-    fn from(_failed: AllocFailed<T>) -> Stop {
-        Stop::NoMemory
-    }
 }

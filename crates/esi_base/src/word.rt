@@ -1,5 +1,5 @@
 //! A word of bits: what the nets of a design carry.
-ghost use Rattle.std.specs.Prelude.{◌≡◌, ◌<◌, ◌≤◌, ◌^◌, Some, slice_get, length, replicate, false, [], ◌∷◌};
+ghost use Rattle.std.specs.Prelude.{◌≡◌, ◌+◌, ◌/◌, ◌<◌, ◌≤◌, ◌^◌, Some, slice_get, length, replicate, false, [], ◌∷◌};
 ghost use Rattle.esi_base.specs.Bits.{bits_of, number_of};
 ghost use Rattle.esi_base.specs.Parts.{part};
 
@@ -11,11 +11,12 @@ mod comparison;
 mod limbs;
 mod pieces;
 
-/// How many bits a limb has.
-const LIMB_BITS: u32 = 64;
+use limbs::{LIMB_BITS, LIMB_OCTETS};
 
-/// How many octets a limb has.
-const LIMB_OCTETS: u32 = 8;
+/// The widest word: 1,024 bits. It bounds what one copy of a word costs, and what one net holds.
+pub const WORD_BITS: u32 = 1_024;
+
+const _: () = prove!(WORD_BITS == 1024);
 
 /// A word of 1 to 1,024 bits. Contracts see the list of its bits, the least significant one first. It
 /// is a plain copy of 16 limbs and a width, and no call on it takes memory.
@@ -84,7 +85,7 @@ impl Word {
         self.width
     }
 
-    /// The bit at a place below the width; place 0 is the least significant bit.
+    /// The bit at an index below the width; index 0 is the least significant bit.
     pub fn bit(&self, at: u32) -> bool
         requires { at < length self.now }
         ensures { slice_get self.now at ≡ Some result }
@@ -93,7 +94,7 @@ impl Word {
         (limb >> (at % LIMB_BITS)) % 2 == 1
     }
 
-    /// The octet at a place below 128; place 0 is the least significant octet, and the bits past the
+    /// The octet at an index below 128; index 0 is the least significant octet, and the bits past the
     /// width are 0.
     pub fn octet(&self, at: u32) -> u8
         requires { at < 128 }
@@ -101,5 +102,15 @@ impl Word {
     {
         let limb = self.limbs[(at / LIMB_OCTETS) as usize];
         ((limb >> (8 * (at % LIMB_OCTETS))) % (1 << 8)) as u8
+    }
+
+    /// The 64 bits from bit `64 * at` on, for an index below the width divided by 64, rounded up. The bits
+    /// past the width are 0.
+    pub fn limb(&self, at: u32) -> u64
+        requires { at < (length self.now + 63) / 64 }
+        ensures { result ≡ part 64 (number_of self.now) at }
+    {
+        prove!(self.width <= 1024);
+        self.limbs[at as usize]
     }
 }

@@ -6,7 +6,7 @@ ghost use Rattle.esi_base.specs.Bits.{zip_bits};
 use super::{Word, limbs};
 
 impl Word {
-    /// Each bit the other way.
+    /// Each bit inverted.
     pub fn bit_not(&self) -> Word
         ensures bits { result ≡ map not self.now }
         ensures width { length result ≡ length self.now }

@@ -4,10 +4,12 @@ ghost use Rattle.esi_base.specs.Parts.{whole, part};
 ghost use Rattle.esi_base.specs.Limbs.{IsLimbs, limbs_of};
 
 /// How many bits a limb has.
-const LIMB_BITS: u32 = 64;
+pub const LIMB_BITS: u32 = 64;
 
 /// How many octets a limb has.
-const LIMB_OCTETS: usize = 8;
+pub const LIMB_OCTETS: u32 = 8;
+
+const _: () = prove!(LIMB_BITS == 64 && LIMB_OCTETS == 8);
 
 /// The bits of the number from one place on, as many as the width says.
 pub fn cut(limbs: &[u64; 16], from: u32, width: u32) -> [u64; 16]
@@ -41,9 +43,21 @@ pub fn from_octets(octets: &[u8]) -> [u64; 16]
 {
     let mut out = [0; 16];
     for at in 0..16 {
-        let from = (LIMB_OCTETS * at).min(octets.len());
-        let end = (from + LIMB_OCTETS).min(octets.len());
+        let from = (LIMB_OCTETS as usize * at).min(octets.len());
+        let end = (from + LIMB_OCTETS as usize).min(octets.len());
         out[at] = limb_of_octets(&octets[from..end]);
+    }
+    out
+}
+
+/// The number that at most 16 limbs are, the least significant one first.
+pub fn from_limbs(limbs: &[u64]) -> [u64; 16]
+    requires { length limbs.now ≤ 16 }
+    ensures { result ≡ limbs_of (whole 64 limbs.now) }
+{
+    let mut out = [0; 16];
+    for at in 0..16 {
+        out[at] = limbs.get(at).copied().unwrap_or(0);
     }
     out
 }

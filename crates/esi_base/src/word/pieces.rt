@@ -22,6 +22,22 @@ impl Word {
         }
     }
 
+    /// The word of a width, of 1 to 1,024 bits, that as many limbs of 64 bits as hold it are, the least
+    /// significant limb first. Bits past the width have to be 0.
+    pub fn from_limbs(width: u32, limbs: &[u64]) -> Word
+        requires low { 1 ≤ width }
+        requires high { width ≤ 1024 }
+        requires count { length limbs.now ≡ (width + 63) / 64 }
+        requires fits { whole 64 limbs.now < 2 ^ width }
+        ensures bits { result ≡ bits_of width (whole 64 limbs.now) }
+        ensures width { length result ≡ width }
+    {
+        Word {
+            limbs: limbs::from_limbs(limbs),
+            width,
+        }
+    }
+
     /// The bits from a low place up to a high one, which is below the width.
     pub fn slice(&self, high: u32, low: u32) -> Word
         requires order { low ≤ high }
