@@ -1,0 +1,10 @@
+pub mod Keywords
+pub mod RuleNumbers
+pub mod Kinds
+pub mod Grammar
+pub mod Names
+pub mod TokenSteps
+pub mod Rules
+pub mod Decided
+pub mod Implementing
+pub mod Leaves

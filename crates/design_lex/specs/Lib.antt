@@ -1,0 +1,13 @@
+pub mod Octet
+pub mod Digits
+pub mod DigitSums
+pub mod RuleNumbers
+pub mod Tokens
+pub mod Steps
+pub mod Cuts
+pub mod CutLaw
+pub mod CutOnly
+pub mod Spellings
+pub mod PrintedDigits
+pub mod Printed
+pub mod WordTexts

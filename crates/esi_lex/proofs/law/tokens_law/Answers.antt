@@ -1,6 +1,0 @@
-use Rattle.esi_lex.specs.CutLaw.{tokens_cut}
-use Rattle.esi_lex.specs.CutOnly.{tokens_only}
-use Rattle.esi_lex.proofs.law.tokens_law.Goals as goal
-
-pub returns : goal.returns
-returns c = record { is_cut = tokens_cut; only_cut = tokens_only }
