@@ -6,6 +6,7 @@ use Rattle.std.proofs.lemmas.Bool.{and_parts, and_from, eqb-true, eq-eqb}
 use Rattle.std.proofs.lemmas.List.{length-append, length-drop, length-map}
 use Rattle.std.proofs.lemmas.List.Elements.{All-head, All-tail}
 use Rattle.std.proofs.lemmas.List.Sums.{sum_by-cons}
+use Rattle.esi_base.specs.declared.word.TheConstants.{WORD_BITS}
 use Rattle.channel_types.specs.Types.{IsGoodType, width_of, field_width}
 use Rattle.channel_types.specs.Equations.{width-Struct, width-Array, width-field}
 use Rattle.channel_types.specs.Goods.{good_type_fields, good_type_item, good_low, good_high}
@@ -97,7 +98,7 @@ pub items_laid_all : (word : List Bool) (item : EsiType) (all : List Value) → 
     → (word ≡ first_lowest (bits_of_value item) all) × (length word ≡ length all * width_of item)
 items_laid_all word item all h = (sym (append-nil word) ∙ h.bits, omega (arith, h.width))
 
--- ---- places in the lists
+-- ---- indices of the lists
 
 next_at : {A : Type 0} (xs : List A) (i : ℕ) (x : A) → i < length xs → x ≡ get_or xs i x → drop i xs ≡ x ∷ drop (i + 1) xs
 next_at xs i x l e = drop-cons xs i x l ∙ ap (λ y. y ∷ drop (suc i) xs) (sym e) ∙ ap (λ k. x ∷ drop k xs) (let g : suc i ≡ i + 1 = omega arith in g)
@@ -144,7 +145,7 @@ both_given ty other v w e g h = sym (ap (λ t. fits_of t v) e ∙ ap (fits_of ot
 
 -- a good struct has a field at least, and its fields and their values are such as may be packed
 pub struct_given : (ty : EsiType) (v : Value) (fields : List Field) (values : List Value) → ty ≡ V.Struct fields → v ≡ W.Struct values → IsGoodType ty → fits_of ty v ≡ true
-    → All HasGoodType fields × (fits_fields (map field_fits fields) values ≡ true) × (1 ≤ length fields) × (sum_by field_width fields ≤ 1024)
+    → All HasGoodType fields × (fits_fields (map field_fits fields) values ≡ true) × (1 ≤ length fields) × (sum_by field_width fields ≤ WORD_BITS)
 struct_given ty v fields values e g good h =
     let struct : IsGoodType (V.Struct fields) = subst IsGoodType e good in
     let low = good_low (V.Struct fields) struct.each in
@@ -154,7 +155,7 @@ struct_given ty v fields values e g good h =
 
 -- a good array has an item at least, and its items are such as may be packed
 pub array_given : (ty : EsiType) (v : Value) (item : EsiType) (count : ℕ) (values : List Value) → ty ≡ V.Array item count → v ≡ W.Array values → IsGoodType ty → fits_of ty v ≡ true
-    → IsGoodType item × (list_all (fits_of item) values ≡ true) × (1 ≤ length values) × (length values * width_of item ≤ 1024)
+    → IsGoodType item × (list_all (fits_of item) values ≡ true) × (1 ≤ length values) × (length values * width_of item ≤ WORD_BITS)
 array_given ty v item count values e g good h =
     let array : IsGoodType (V.Array item count) = subst IsGoodType e good in
     let fits = array_fits item count values (both_given ty (V.Array item count) v (W.Array values) e g h) in
@@ -162,4 +163,4 @@ array_given ty v item count values e g good h =
     let high = good_high (V.Array item count) array.each in
     let width = width-Array item count in
     let some = some_item count (width_of item) (omega arith) in
-    (good_type_item item count array, fits.1, omega (arith, fits.0), subst (λ n. n * width_of item ≤ 1024) (sym fits.0) (omega arith))
+    (good_type_item item count array, fits.1, omega (arith, fits.0), subst (λ n. n * width_of item ≤ WORD_BITS) (sym fits.0) (omega arith))

@@ -12,13 +12,13 @@ last_alone octets last e =
     ap (whole 8) (drop-cons octets last 0 (omega arith) ∙ ap (λ xs. get_or octets last 0 ∷ xs) (drop_all (suc last) octets (omega arith)))
     ∙ omega arith
 
--- the bits of the last octet from a place on are those of the number
+-- the bits of the last octet from an index on are those of the number
 pub last_shifted : (octets : List ℕ) (last used : ℕ) → AreSmall 8 octets → length octets ≡ last + 1 → get_or octets last 0 / 2 ^ used ≡ whole 8 octets / 2 ^ (8 * last + used)
 last_shifted octets last used small e =
     ap (λ n. n / 2 ^ used) (sym (last_alone octets last e) ∙ whole-drop 8 last octets small)
     ∙ shr-shr (whole 8 octets) (8 * last) used
 
--- a number has a bit at a place or above exactly where it is no less than the power
+-- a number has a bit at an index or above exactly where it is no less than the power
 pub is_above : (n width : ℕ) → IsTrue (not (n / 2 ^ width == 0)) ↔ (2 ^ width ≤ n)
 is_above n width = (λ h. from h, λ h. to h)
   where

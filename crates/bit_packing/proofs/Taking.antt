@@ -21,7 +21,7 @@ use Rattle.bit_packing.specs.Voids.{has_marked_one, voids_of}
 use Rattle.bit_packing.specs.Equations.{fits-Bits, fits-Void, fits-Struct, fits-Array, fits-field, bits-Bits, bits-Void, bits-Struct, bits-Array, bits-field, voids-Void}
 use Rattle.bit_packing.proofs.VoidWalk.{fields_set, items_set, IsWalked, walked_none, walked_more, walked_left, walked_room, AreWalked, items_walked_none, items_walked_more, items_left}
 
--- the bits that stand from a place of the word on, as many as the type is wide
+-- the bits that stand from an index of the word on, as many as the type is wide
 abbrev pub bits_at : List Bool → ℕ → ℕ → List Bool
 bits_at word at width = take width (drop at word)
 
@@ -61,17 +61,17 @@ first_lowest-snoc pack (w ∷ vs) v = ap (λ bits. pack w ++ bits) (first_lowest
 
 -- ---- fields
 
--- The values of so many fields are taken, and the bits of the others end below this place.
+-- The values of so many fields are taken, and the bits of the others end below this index.
 pub record IsTaken (word : List Bool) (fields : List Field) (end i at : ℕ) (values : List Value) : Type 0 where
   pub walk : IsWalked word fields end i at
-  pub place : at + sum_by field_width (take i fields) ≡ end
+  pub index : at + sum_by field_width (take i fields) ≡ end
   pub fits : fits_fields (map field_fits (take i fields)) values ≡ true
   pub packs : first_highest (map field_bits (take i fields)) values ≡ bits_at word at (end - at)
 
 pub taken_none : (word : List Bool) (fields : List Field) (end : ℕ) → sum_by field_width fields ≤ end → IsTaken word fields end 0 end []
 taken_none word fields end room = record {
   walk = walked_none word fields end room;
-  place = omega arith;
+  index = omega arith;
   fits = refl;
   packs = ap (λ k. take k (drop end word)) (let e : 0 ≡ end - end = omega arith in e);
 }
@@ -90,7 +90,7 @@ module _ (word : List Bool) (fields : List Field) (end i at width : ℕ) (f : Fi
       let long = eqb-true (length values) (length (map field_fits (take i fields))) p.0 in
       record {
         walk = walked_more word fields end i at width f l e w h.walk (field_clear h.walk);
-        place = omega (arith, h.place, sum_by_more field_width fields i f l, ap field_width e, width-field f);
+        index = omega (arith, h.index, sum_by_more field_width fields i f l, ap field_width e, width-field f);
         fits =
             subst (λ fs. fits_fields (map field_fits fs) (values ++ v ∷ []) ≡ true) (sym next)
             (subst (λ ts. fits_fields ts (values ++ v ∷ []) ≡ true) (sym (map-append field_fits (take i fields) (f ∷ [])))
@@ -109,7 +109,7 @@ pub taken_all : (word : List Bool) (fields : List Field) (end i at : ℕ) (value
     → PackFields fields values (bits_at word (end - sum_by field_width fields) (sum_by field_width fields))
 taken_all word fields end i at values l h =
     let all = take_all i fields l in
-    let place : at + sum_by field_width fields ≡ end = ap (λ fs. at + sum_by field_width fs) (sym all) ∙ h.place in
+    let index : at + sum_by field_width fields ≡ end = ap (λ fs. at + sum_by field_width fs) (sym all) ∙ h.index in
     let e : at ≡ end - sum_by field_width fields = omega arith in
     record {
       fits = subst (λ fs. fits_fields (map field_fits fs) values ≡ true) all h.fits;
@@ -122,7 +122,7 @@ taken_all word fields end i at values l h =
 
 -- ---- items
 
--- So many items are taken, and the bits of the others begin at this place.
+-- So many items are taken, and the bits of the others begin at this index.
 pub record AreTaken (word : List Bool) (item : EsiType) (count start i at : ℕ) (values : List Value) : Type 0 where
   pub walk : AreWalked word item count start i at
   pub count_of : length values ≡ i
@@ -152,7 +152,7 @@ module _ (word : List Bool) (item : EsiType) (count start i at width : ℕ) (l :
         first_lowest-snoc (bits_of_value item) values v
         ∙ ap (λ bits. bits ++ bits_of_value item v) h.packs
         ∙ ap (λ bits. bits_at word start (i * width_of item) ++ bits)
-        (one.packs ∙ ap (λ k. bits_at word k (width_of item)) h.walk.place ∙ ap (λ bits. take (width_of item) bits) (sym (drop-drop (i * width_of item) start word)))
+        (one.packs ∙ ap (λ k. bits_at word k (width_of item)) h.walk.index ∙ ap (λ bits. take (width_of item) bits) (sym (drop-drop (i * width_of item) start word)))
         ∙ sym (take-add (i * width_of item) (width_of item) (drop start word))
         ∙ ap (λ k. bits_at word start k) (let g : i * width_of item + width_of item ≡ (i + 1) * width_of item = grind arith in g);
   }
@@ -192,7 +192,7 @@ array_taken item count values bits h = record {
   packs = bits-Array item count (W.Array values) ∙ ap (λ x. first_lowest (bits_of_value item) (parts_of x)) (outs-Array values) ∙ h.packs;
 }
 
--- ---- the same at a place of a word
+-- ---- the same at a index of a word
 
 pub number_at : (ty : EsiType) (class : Class) (width at : ℕ) (word part : List Bool) → ty ≡ V.Bits class width → 1 ≤ width → at + width ≤ length word → part ≡ slice_range word at (at + width - 1 + 1)
     → PacksTo ty (W.Number part) (bits_at word at (width_of ty))

@@ -27,7 +27,7 @@ length-stacked (f ∷ fs) =
     ∙ let e : sum_by field_width fs + field_width f ≡ field_width f + sum_by field_width fs = omega arith in e
     ∙ sym (sum_by-cons field_width f fs)
 
--- whether a void bit is 1 among those of the fields, which end below a place of the word
+-- whether a void bit is 1 among those of the fields, which end below an index of the word
 abbrev pub fields_set : List Bool → List Field → ℕ → Bool
 fields_set word fields end = has_marked_one (stacked (map field_voids fields)) (drop (end - sum_by field_width fields) word)
 
@@ -59,7 +59,7 @@ void_set (x ∷ word) zero b e = or_nothing x ∙ (let g : x ≡ b = cc in g)
     or_nothing false = refl
 void_set (x ∷ word) (suc at) b e = void_set word at b e
 
--- Of so many fields no void bit is 1, and the bits of the others end below this place.
+-- Of so many fields no void bit is 1, and the bits of the others end below this index.
 pub record IsWalked (word : List Bool) (fields : List Field) (end i at : ℕ) : Type 0 where
   pub room : sum_by field_width (drop i fields) ≤ at
   pub within : at ≤ end
@@ -107,7 +107,7 @@ walked_all word fields end i at l h = sym h.left ∙ ap (λ fs. fields_set word 
 
 -- ---- items
 
--- whether a void bit is 1 among those of so many items, which begin at a place of the word
+-- whether a void bit is 1 among those of so many items, which begin at an index of the word
 abbrev pub items_set : List Bool → EsiType → ℕ → ℕ → Bool
 items_set word item count at = has_marked_one (repeated count (voids_of item)) (drop at word)
 
@@ -117,13 +117,13 @@ items_set-suc word item count at =
     ∙ ap (λ k. has_marked_one (voids_of item) (drop at word) || has_marked_one (repeated count (voids_of item)) (drop k (drop at word))) (length-voids item)
     ∙ ap (λ bits. has_marked_one (voids_of item) (drop at word) || has_marked_one (repeated count (voids_of item)) bits) (drop-drop (width_of item) at word)
 
--- Of so many items no void bit is 1, and those of the others begin at this place.
+-- Of so many items no void bit is 1, and those of the others begin at this index.
 pub record AreWalked (word : List Bool) (item : EsiType) (count start i at : ℕ) : Type 0 where
-  pub place : at ≡ start + i * width_of item
+  pub index : at ≡ start + i * width_of item
   pub left : items_set word item (count - i) at ≡ items_set word item count start
 
 pub items_walked_none : (word : List Bool) (item : EsiType) (count start : ℕ) → AreWalked word item count start 0 start
-items_walked_none word item count start = record { place = omega arith; left = ap (λ k. items_set word item k start) (let e : count - 0 ≡ count = omega arith in e) }
+items_walked_none word item count start = record { index = omega arith; left = ap (λ k. items_set word item k start) (let e : count - 0 ≡ count = omega arith in e) }
 
 module _ (word : List Bool) (item : EsiType) (count start i at width : ℕ) (l : i < count) (w : width ≡ width_of item) where
   pub items_room : AreWalked word item count start i at → at + width + (count - i - 1) * width_of item ≡ start + count * width_of item
@@ -131,7 +131,7 @@ module _ (word : List Bool) (item : EsiType) (count start i at width : ℕ) (l :
       let e : count ≡ i + 1 + (count - i - 1) = omega arith in
       let rest = count - i - 1 in
       let g : (i + 1 + rest) * width_of item ≡ i * width_of item + width_of item + rest * width_of item = grind arith in
-      omega (arith, h.place, g, ap (λ k. k * width_of item) e)
+      omega (arith, h.index, g, ap (λ k. k * width_of item) e)
 
   pub items_left : AreWalked word item count start i at → (has_marked_one (voids_of item) (drop at word) || items_set word item (count - (i + 1)) (at + width)) ≡ items_set word item count start
   items_left h =
@@ -142,7 +142,7 @@ module _ (word : List Bool) (item : EsiType) (count start i at width : ℕ) (l :
 
   pub items_walked_more : AreWalked word item count start i at → has_marked_one (voids_of item) (drop at word) ≡ false → AreWalked word item count start (i + 1) (at + width)
   items_walked_more h clear = record {
-    place = let g : (i + 1) * width_of item ≡ i * width_of item + width_of item = grind arith in omega (arith, h.place);
+    index = let g : (i + 1) * width_of item ≡ i * width_of item + width_of item = grind arith in omega (arith, h.index);
     left = ap (λ b. b || items_set word item (count - (i + 1)) (at + width)) (sym clear) ∙ items_left h;
   }
 

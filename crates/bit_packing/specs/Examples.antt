@@ -1,4 +1,4 @@
--- Worked values: what is packed, and how octets are judged.
+-- Worked values: what is packed, and what octets give.
 use Rattle.std.proofs.Common.{◌≡◌, ℕ, false, List, [], ◌∷◌, ◌++◌, map, Ok, Err, refl, ap, ◌∙◌}
 use Rattle.std.specs.Prelude.{codes}
 use Rattle.esi_base.specs.Bits.{bits_of}
@@ -14,7 +14,7 @@ use Rattle.bit_packing.specs.declared.value.Value.TheVariants.{outs-Number, outs
 use Rattle.bit_packing.specs.declared.octets.Unpacked.TheVariants.{Count, Spare, VoidBit}
 use Rattle.bit_packing.specs.Packing.{own_bits, parts_of, first_highest, first_lowest, bits_of_value, field_bits}
 use Rattle.bit_packing.specs.Equations.{bits-Bits, bits-Struct, bits-Array, bits-field, voids-Bits, voids-Void}
-use Rattle.bit_packing.specs.OctetRules.{judged}
+use Rattle.bit_packing.specs.OctetRules.{word_from}
 
 -- numbers of eight bits
 octet_type : EsiType
@@ -61,30 +61,30 @@ nine = V.Bits Unsigned 9
 nine_octets : octets_of (bits_of 9 8) ≡ 8 ∷ 0 ∷ []
 nine_octets = refl
 
-nine_read : judged (8 ∷ 0 ∷ []) nine ≡ Ok (bits_of 9 8)
+nine_read : word_from (8 ∷ 0 ∷ []) nine ≡ Ok (bits_of 9 8)
 unfolding nine
 nine_read = rw (width-Bits, voids-Bits) refl
 
-nine_spare : judged (8 ∷ 2 ∷ []) nine ≡ Err Spare
+nine_spare : word_from (8 ∷ 2 ∷ []) nine ≡ Err Spare
 unfolding nine
 nine_spare = rw width-Bits refl
 
-nine_short : judged (8 ∷ []) nine ≡ Err Count
+nine_short : word_from (8 ∷ []) nine ≡ Err Count
 unfolding nine
 nine_short = rw width-Bits refl
 
 -- `void`: `00`; `01` sets the void's bit, `02` and `03` a spare one, no octets are too few
-void_read : judged (0 ∷ []) V.Void ≡ Ok (false ∷ [])
+void_read : word_from (0 ∷ []) V.Void ≡ Ok (false ∷ [])
 void_read = rw (width-Void, voids-Void) refl
 
-void_set : judged (1 ∷ []) V.Void ≡ Err VoidBit
+void_set : word_from (1 ∷ []) V.Void ≡ Err VoidBit
 void_set = rw (width-Void, voids-Void) refl
 
-void_spare : judged (2 ∷ []) V.Void ≡ Err Spare
+void_spare : word_from (2 ∷ []) V.Void ≡ Err Spare
 void_spare = rw width-Void refl
 
-void_spare_first : judged (3 ∷ []) V.Void ≡ Err Spare
+void_spare_first : word_from (3 ∷ []) V.Void ≡ Err Spare
 void_spare_first = rw width-Void refl
 
-void_short : judged [] V.Void ≡ Err Count
+void_short : word_from [] V.Void ≡ Err Count
 void_short = rw width-Void refl

@@ -13,7 +13,7 @@ use Rattle.bit_packing.specs.declared.value.Value.TheViews.{out-Value}
 abbrev pub Test : Type 0
 Test = Value → Bool
 
--- each value passes the test at its place
+-- each value passes the test at its index
 abbrev pub pass_each : List Test → List Value → Bool
 pass_each [] values = true
 pass_each (test ∷ tests) [] = true

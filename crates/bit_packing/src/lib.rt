@@ -5,8 +5,6 @@ mod fitting;
 mod laws;
 mod octets;
 mod packing;
-#[cfg(test)]
-mod tests;
 mod unpacking;
 mod value;
 mod voids;

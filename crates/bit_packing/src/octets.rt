@@ -5,16 +5,17 @@ ghost use Rattle.esi_base.specs.Parts.{whole};
 ghost use Rattle.channel_types.specs.Types.{IsGoodType, width_of};
 ghost use Rattle.bit_packing.specs.Packing.{IsPacking};
 ghost use Rattle.bit_packing.specs.Voids.{SetsVoid};
-ghost use Rattle.bit_packing.specs.OctetRules.{octets_for, bits_from, SetsSpare, judged};
+ghost use Rattle.bit_packing.specs.OctetRules.{octets_for, bits_from, SetsSpare, word_from};
 
 use crate::voids::sets_void;
 use esi_base::Word;
+use esi_base::word::WORD_BITS;
 use esi_types::EsiType;
 
-/// Why octets are no packing of a type.
+/// The rules that octets break which are no packing of a type.
 #[derive(Clone, Copy, Debug, PartialEq, Eq)]
 pub enum Unpacked {
-    /// There are not as many octets as hold the type.
+    /// There are not as many octets as hold a value of the type.
     Count,
     /// A bit past the type's width is 1.
     Spare,
@@ -23,11 +24,11 @@ pub enum Unpacked {
 }
 
 impl Unpacked {
-    ghost use Rattle.bit_packing.specs.OctetRules.{number_of_cause};
+    ghost use Rattle.bit_packing.specs.OctetRules.{rule_number};
 
-    /// The number of the rule that the octets break.
+    /// The number of the rule: 111, 112 or 113.
     pub fn number(self) -> u16
-        ensures { result ≡ number_of_cause self }
+        ensures { result ≡ rule_number self }
     {
         match self {
             Unpacked::Count => 111,
@@ -55,13 +56,13 @@ pub fn from_octets(octets: &[u8], ty: &EsiType) -> Result<Word, Unpacked>
     ensures word { (word : List Bool) → (result ≡ Ok word) ↔ (IsPacking word ty.now × (octets_of word ≡ octets.now)) }
     ensures packing { IfOk result (λ word. IsPacking word ty.now) }
 
-    // The number of octets is judged first, then the bits past the width, then those of voids.
+    // The number of octets is checked first, then the bits past the width, then those of voids.
     ensures count { (result ≡ Err Unpacked.Count) ↔ (length octets.now ≢ octets_for ty.now) }
     ensures spare { (result ≡ Err Unpacked.Spare) ↔ ((length octets.now ≡ octets_for ty.now) × SetsSpare octets.now ty.now) }
     ensures void_bit { (result ≡ Err Unpacked.VoidBit) ↔ ((length octets.now ≡ octets_for ty.now) × (whole 8 octets.now < 2 ^ width_of ty.now) × SetsVoid (bits_from octets.now ty.now) ty.now) }
 
     // The answer is that of the tests in their order.
-    ensures judged { result ≡ judged octets.now ty.now }
+    ensures computed { result ≡ word_from octets.now ty.now }
 {
     word_of(octets, ty)
 }
@@ -69,7 +70,7 @@ pub fn from_octets(octets: &[u8], ty: &EsiType) -> Result<Word, Unpacked>
 /// The same, by the tests in their order.
 fn word_of(octets: &[u8], ty: &EsiType) -> Result<Word, Unpacked>
     requires { IsGoodType ty.now }
-    ensures { result ≡ judged octets.now ty.now }
+    ensures { result ≡ word_from octets.now ty.now }
 {
     let width = ty.width();
     let count = width.div_ceil(8);
@@ -89,7 +90,7 @@ fn word_of(octets: &[u8], ty: &EsiType) -> Result<Word, Unpacked>
 /// Whether a bit past the width is 1, in as many octets as hold it.
 fn has_spare(octets: &[u8], width: u32) -> bool
     requires low { 1 ≤ width }
-    requires high { width ≤ 1024 }
+    requires high { width ≤ WORD_BITS }
     requires count { length octets.now ≡ (width + 7) / 8 }
     ensures { IsTrue result ↔ (2 ^ width ≤ whole 8 octets.now) }
 {

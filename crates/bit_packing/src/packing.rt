@@ -7,6 +7,7 @@ ghost use Rattle.bit_packing.specs.Packing.{bits_of_value, field_bits, first_hig
 
 use crate::value::Value;
 use esi_base::Word;
+use esi_base::word::WORD_BITS;
 use esi_types::{EsiType, Field};
 
 /// The packing of a value that fits the type. A number gives its own bits, `void` one bit that is 0, a
@@ -49,7 +50,7 @@ fn packed_fields(values: &[Value], fields: &[Field]) -> Word
     requires good { All (λ f. IsGoodType f.ty) fields.now }
     requires fits { IsTrue (fits_fields (map field_fits fields.now) values.now) }
     requires some { 1 ≤ length fields.now }
-    requires narrow { sum_by field_width fields.now ≤ 1024 }
+    requires narrow { sum_by field_width fields.now ≤ WORD_BITS }
     ensures bits { result ≡ first_highest (map field_bits fields.now) values.now }
     ensures width { length result ≡ sum_by field_width fields.now }
 {
@@ -66,7 +67,7 @@ fn packed_items(values: &[Value], item: &EsiType) -> Word
     requires good { IsGoodType item.now }
     requires fits { IsTrue (list_all (fits_of item.now) values.now) }
     requires some { 1 ≤ length values.now }
-    requires narrow { length values.now * width_of item.now ≤ 1024 }
+    requires narrow { length values.now * width_of item.now ≤ WORD_BITS }
     ensures bits { result ≡ first_lowest (bits_of_value item.now) values.now }
     ensures width { length result ≡ length values.now * width_of item.now }
 {

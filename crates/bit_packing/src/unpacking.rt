@@ -6,6 +6,7 @@ ghost use Rattle.bit_packing.specs.Packing.{PacksTo, PackFields, PackItems, IsPa
 ghost use Rattle.bit_packing.specs.Voids.{has_marked_one, voids_of, field_voids, stacked, repeated};
 
 use crate::value::Value;
+use esi_base::word::WORD_BITS;
 use esi_base::{NoMemory, Word};
 use esi_types::{EsiType, Field};
 use sqlite_items::Items;
@@ -23,12 +24,12 @@ pub fn unpack(alloc: Global, word: &Word, ty: &EsiType) -> Result<Value, NoMemor
     value_at(alloc, word, ty, 0)
 }
 
-/// The value whose bits begin at a place of the word, in which no void bit is 1.
+/// The value whose bits begin at an index of the word, in which no void bit is 1.
 #[cycle(unpacking)]
 fn value_at(alloc: Global, word: &Word, ty: &EsiType, at: u32) -> Result<Value, NoMemory>
     requires good { IsGoodType ty.now }
     requires within { at + width_of ty.now ≤ length word.now }
-    requires narrow { length word.now ≤ 1024 }
+    requires narrow { length word.now ≤ WORD_BITS }
     requires clear { has_marked_one (voids_of ty.now) (drop at word.now) ≡ false }
     ensures { IfOk result (λ value. PacksTo ty.now value (take (width_of ty.now) (drop at word.now))) }
 {
@@ -46,7 +47,7 @@ fn value_at(alloc: Global, word: &Word, ty: &EsiType, at: u32) -> Result<Value, 
     }
 }
 
-/// The values of a struct's fields, whose bits end below a place of the word.
+/// The values of a struct's fields, whose bits end below an index of the word.
 #[cycle(unpacking)]
 fn values_below(
     alloc: Global,
@@ -57,7 +58,7 @@ fn values_below(
     requires good { All (λ f. IsGoodType f.ty) fields.now }
     requires room { sum_by field_width fields.now ≤ end }
     requires within { end ≤ length word.now }
-    requires narrow { length word.now ≤ 1024 }
+    requires narrow { length word.now ≤ WORD_BITS }
     requires clear { has_marked_one (stacked (map field_voids fields.now)) (drop (end - sum_by field_width fields.now) word.now) ≡ false }
     ensures { IfOk result (λ values. PackFields fields.now values (take (sum_by field_width fields.now) (drop (end - sum_by field_width fields.now) word.now))) }
 {
@@ -70,7 +71,7 @@ fn values_below(
     Ok(values)
 }
 
-/// The items of an array, whose bits begin at a place of the word.
+/// The items of an array, whose bits begin at an index of the word.
 #[cycle(unpacking)]
 fn values_from(
     alloc: Global,
@@ -81,7 +82,7 @@ fn values_from(
 ) -> Result<Items<Value>, NoMemory>
     requires good { IsGoodType item.now }
     requires within { start + count * width_of item.now ≤ length word.now }
-    requires narrow { length word.now ≤ 1024 }
+    requires narrow { length word.now ≤ WORD_BITS }
     requires clear { has_marked_one (repeated count (voids_of item.now)) (drop start word.now) ≡ false }
     ensures { IfOk result (λ values. PackItems item.now count values (take (count * width_of item.now) (drop start word.now))) }
 {

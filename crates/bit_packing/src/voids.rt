@@ -6,6 +6,7 @@ ghost use Rattle.bit_packing.specs.Packing.{IsPacking};
 ghost use Rattle.bit_packing.specs.Voids.{has_marked_one, voids_of, field_voids, stacked, repeated};
 
 use esi_base::Word;
+use esi_base::word::WORD_BITS;
 use esi_types::{EsiType, Field};
 
 /// Whether the word is the packing of a value of the type. It takes no memory.
@@ -16,13 +17,13 @@ pub fn is_packing(word: &Word, ty: &EsiType) -> bool
     word.width() == ty.width() && !sets_void(word, ty, 0)
 }
 
-/// Whether a void's bit is 1, among the bits of a value of the type that stand from a place of the word
+/// Whether a void's bit is 1, among the bits of a value of the type that stand from an index of the word
 /// on.
 #[cycle(voids)]
 pub(crate) fn sets_void(word: &Word, ty: &EsiType, at: u32) -> bool
     requires good { IsGoodType ty.now }
     requires within { at + width_of ty.now ≤ length word.now }
-    requires narrow { length word.now ≤ 1024 }
+    requires narrow { length word.now ≤ WORD_BITS }
     ensures { result ≡ has_marked_one (voids_of ty.now) (drop at word.now) }
 {
     match ty {
@@ -33,13 +34,13 @@ pub(crate) fn sets_void(word: &Word, ty: &EsiType, at: u32) -> bool
     }
 }
 
-/// The same for the fields of a struct, whose bits end below a place of the word.
+/// The same for the fields of a struct, whose bits end below an index of the word.
 #[cycle(voids)]
 fn field_sets_void(word: &Word, fields: &[Field], end: u32) -> bool
     requires good { All (λ f. IsGoodType f.ty) fields.now }
     requires room { sum_by field_width fields.now ≤ end }
     requires within { end ≤ length word.now }
-    requires narrow { length word.now ≤ 1024 }
+    requires narrow { length word.now ≤ WORD_BITS }
     ensures { result ≡ has_marked_one (stacked (map field_voids fields.now)) (drop (end - sum_by field_width fields.now) word.now) }
 {
     let mut at = end;
@@ -52,12 +53,12 @@ fn field_sets_void(word: &Word, fields: &[Field], end: u32) -> bool
     false
 }
 
-/// The same for the items of an array, whose bits begin at a place of the word.
+/// The same for the items of an array, whose bits begin at an index of the word.
 #[cycle(voids)]
 fn item_sets_void(word: &Word, item: &EsiType, count: u32, start: u32) -> bool
     requires good { IsGoodType item.now }
     requires within { start + count * width_of item.now ≤ length word.now }
-    requires narrow { length word.now ≤ 1024 }
+    requires narrow { length word.now ≤ WORD_BITS }
     ensures { result ≡ has_marked_one (repeated count (voids_of item.now)) (drop start word.now) }
 {
     let width = item.width();

@@ -14,7 +14,7 @@ digits_before n (suc k) more within = omega arith
 fewer_digits : (n at : ℕ) → n < 10 ^ suc at → n / 10 < 10 ^ at
 fewer_digits n at within = omega (arith, pow-suc 10 at)
 
--- The digits of what is left, and behind them those that are put, are those of the number.
+-- The digits of what is left, and after them those that are written, are those of the number.
 pub record ArePut (number rest at : ℕ) (digits : List ℕ) : Type 0 where
   pub room : at < length digits
   pub within : rest < 10 ^ suc at

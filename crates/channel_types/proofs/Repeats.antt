@@ -1,4 +1,4 @@
--- A walk over names that keeps those seen in a set.
+-- A walk over names that puts each into a set.
 use Rattle.std.proofs.Common.{◌≡◌, ℕ, Bool, true, false, not, ◌||◌, List, [], ◌∷◌, ◌++◌, ◌+◌, ◌<◌, length, get_or, map, take, drop, Bor, Ordering, refl, ap, sym, ◌∙◌, subst, inl, inr}
 use Rattle.std.specs.List.{list_any}
 use Rattle.std.specs.Str.{bytes_eq}
@@ -47,7 +47,7 @@ or_pairs false true true d = refl
 or_pairs false true false d = refl
 or_pairs false false c d = refl
 
--- ---- the set of the names seen
+-- ---- the set of names
 
 -- the order of the set
 abbrev pub compare : Bor (List ℕ) → Bor (List ℕ) → Ordering
@@ -113,25 +113,25 @@ repeat_taken fields n e =
 -- ---- the walk
 
 -- The keys are those of the names, which are distinct.
-pub record IsSeen (keys : List (Bor (List ℕ))) (names : List (List ℕ)) : Type 0 where
-  pub known : (q : List ℕ) → has_name keys q ≡ stands_in q names
+pub record AreKeysOf (keys : List (Bor (List ℕ))) (names : List (List ℕ)) : Type 0 where
+  pub has : (q : List ℕ) → has_name keys q ≡ stands_in q names
   pub distinct : has_repeat names ≡ false
 
-pub none_seen : (keys : List (Bor (List ℕ))) → keys ≡ [] → IsSeen keys []
-none_seen keys e = record { known = λ q. rw e; distinct = refl }
+pub AreKeysOf-nil : (keys : List (Bor (List ℕ))) → keys ≡ [] → AreKeysOf keys []
+AreKeysOf-nil keys e = record { has = λ q. rw e; distinct = refl }
 
-has_repeat_seen : (keys : List (Bor (List ℕ))) (k : Bor (List ℕ)) (names : List (List ℕ)) → IsSeen keys names
+has_repeat-key : (keys : List (Bor (List ℕ))) (k : Bor (List ℕ)) (names : List (List ℕ)) → AreKeysOf keys names
     → has_repeat (names ++ k.now ∷ []) ≡ list_any (λ x. is_eq (compare k x)) keys
-has_repeat_seen keys k names seen =
-    has_repeat-push names k.now ∙ ap (λ b. b || stands_in k.now names) seen.distinct ∙ sym (has_name-compare keys k ∙ seen.known k.now)
+has_repeat-key keys k names known =
+    has_repeat-push names k.now ∙ ap (λ b. b || stands_in k.now names) known.distinct ∙ sym (has_name-compare keys k ∙ known.has k.now)
 
-pub seen_again : (keys : List (Bor (List ℕ))) (k : Bor (List ℕ)) (names : List (List ℕ)) → IsSeen keys names
+pub repeat_found : (keys : List (Bor (List ℕ))) (k : Bor (List ℕ)) (names : List (List ℕ)) → AreKeysOf keys names
     → false ≡ not (list_any (λ x. is_eq (compare k x)) keys) → has_repeat (names ++ k.now ∷ []) ≡ true
-seen_again keys k names seen e = has_repeat_seen keys k names seen ∙ not_false (list_any (λ x. is_eq (compare k x)) keys) e
+repeat_found keys k names known e = has_repeat-key keys k names known ∙ not_false (list_any (λ x. is_eq (compare k x)) keys) e
 
-pub seen_more : (keys more : List (Bor (List ℕ))) (k : Bor (List ℕ)) (names : List (List ℕ)) → IsSeen keys names
-    → true ≡ not (list_any (λ x. is_eq (compare k x)) keys) → more ≡ insert_key compare keys k → IsSeen more (names ++ k.now ∷ [])
-seen_more keys more k names seen e made = record {
-  known = λ q. rw (made, has_name-insert_key keys k q, seen.known q, stands_in-push q names k.now);
-  distinct = has_repeat_seen keys k names seen ∙ not_true (list_any (λ x. is_eq (compare k x)) keys) e;
+pub AreKeysOf-push : (keys more : List (Bor (List ℕ))) (k : Bor (List ℕ)) (names : List (List ℕ)) → AreKeysOf keys names
+    → true ≡ not (list_any (λ x. is_eq (compare k x)) keys) → more ≡ insert_key compare keys k → AreKeysOf more (names ++ k.now ∷ [])
+AreKeysOf-push keys more k names known e made = record {
+  has = λ q. rw (made, has_name-insert_key keys k q, known.has q, stands_in-push q names k.now);
+  distinct = has_repeat-key keys k names known ∙ not_true (list_any (λ x. is_eq (compare k x)) keys) e;
 }

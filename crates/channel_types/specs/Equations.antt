@@ -4,8 +4,8 @@ use Rattle.std.specs.Prelude.{codes}
 use Rattle.std.specs.List.{sum_by}
 use Rattle.std.specs.Fmt.{decimal}
 use Rattle.std.proofs.lemmas.List.Sums.{sum-map}
-use Rattle.esi_lex.specs.Spellings.{class_letters}
-use Rattle.esi_lex.specs.declared.token.Class.{Class}
+use Rattle.design_lex.specs.Spellings.{class_letters}
+use Rattle.design_lex.specs.declared.token.Class.{Class}
 use Rattle.channel_types.specs.declared.esi_type.EsiType.{EsiType}
 use Rattle.channel_types.specs.declared.esi_type.EsiType.TheVariants as V
 use Rattle.channel_types.specs.declared.esi_type.EsiType.TheVariants.{rolls-Bits, rolls-Void, rolls-Struct, rolls-Array}

@@ -2,8 +2,9 @@
 use Rattle.std.proofs.Common.{◌≡◌, ℕ, ◌+◌, ◌≤◌, List, [], ◌∷◌, get_or, map, refl, ap, sym, ◌∙◌, subst, arith}
 use Rattle.std.specs.Prelude.{All}
 use Rattle.std.proofs.lemmas.List.Elements.{All-nil, All-cons, All-head, All-tail, All-same, All-map, All-weaker}
-use Rattle.esi_lex.specs.declared.token.Class.{Class}
-use Rattle.design_tokens.specs.Names.{IsName}
+use Rattle.design_lex.specs.declared.token.Class.{Class}
+use Rattle.design_lex.specs.declared.limits.TheConstants.{WIDEST_TYPE}
+use Rattle.design_grammar.specs.Names.{IsName}
 use Rattle.channel_types.specs.declared.esi_type.EsiType.{EsiType}
 use Rattle.channel_types.specs.declared.esi_type.EsiType.TheVariants as V
 use Rattle.channel_types.specs.declared.esi_type.EsiType.TheVariants.{outs-Bits, outs-Void, outs-Struct, outs-Array, rolls-Bits, rolls-Void, rolls-Struct, rolls-Array}
@@ -11,6 +12,7 @@ use Rattle.channel_types.specs.declared.esi_type.EsiType.TheOpen.{EsiType-F}
 use Rattle.channel_types.specs.declared.esi_type.EsiType.TheViews.{out-EsiType, out-Field}
 use Rattle.channel_types.specs.declared.esi_type.EsiType.TheFolds as folds
 use Rattle.channel_types.specs.declared.esi_type.Field.{Field}
+use Rattle.channel_types.specs.declared.limits.TheConstants.{OPEN_TYPES}
 use Rattle.channel_types.specs.Types.{width_of, nesting_of, field_nesting, greatest, IsLevel, IsEachGood, IsGoodField, IsGoodType}
 use Rattle.channel_types.specs.Equations.{width-level, nesting-Bits, nesting-Void, nesting-Struct, nesting-Array, nesting-field}
 
@@ -49,7 +51,7 @@ good_level_Array item count good = subst IsLevel (outs-Array item count) (good_l
 pub good_low : (ty : EsiType) → IsEachGood ty → 1 ≤ width_of ty
 good_low ty good = let level = good_level ty good in omega (arith, level.low, width-level ty)
 
-pub good_high : (ty : EsiType) → IsEachGood ty → width_of ty ≤ 1024
+pub good_high : (ty : EsiType) → IsEachGood ty → width_of ty ≤ WIDEST_TYPE
 good_high ty good = let level = good_level ty good in omega (arith, level.high, width-level ty)
 
 -- the type of a good field
@@ -96,7 +98,7 @@ item_within levels item count good = record { each = good_item item count good.e
 
 -- ---- what parts make a good type
 
-pub good_bits : (class : Class) (width : ℕ) → 1 ≤ width → width ≤ 1024 → IsGoodWithin 1 (V.Bits class width)
+pub good_bits : (class : Class) (width : ℕ) → 1 ≤ width → width ≤ WIDEST_TYPE → IsGoodWithin 1 (V.Bits class width)
 good_bits class width low high =
     let level : IsLevel (EsiType-F.Bits class width) = record { low = low; high = high; names = All-nil IsName; distinct = refl } in
     record {
@@ -151,18 +153,18 @@ good_array levels item count level good = record {
 pub good_deeper : (levels more : ℕ) (ty : EsiType) → levels ≤ more → IsGoodWithin levels ty → IsGoodWithin more ty
 good_deeper levels more ty deeper good = record { each = good.each; nesting = omega (arith, good.nesting) }
 
--- ---- a good type is good within 16 levels
+-- ---- a good type is good within as many levels as may stand inside one another
 
-pub good_type : (ty : EsiType) → IsGoodWithin 16 ty → IsGoodType ty
+pub good_type : (ty : EsiType) → IsGoodWithin OPEN_TYPES ty → IsGoodType ty
 good_type ty good = record { each = good.each; nesting = good.nesting }
 
-pub good_within : (ty : EsiType) → IsGoodType ty → IsGoodWithin 16 ty
+pub good_within : (ty : EsiType) → IsGoodType ty → IsGoodWithin OPEN_TYPES ty
 good_within ty good = record { each = good.each; nesting = good.nesting }
 
 pub good_type_fields : (fields : List Field) → IsGoodType (V.Struct fields) → All (λ f. IsGoodType f.ty) fields
 good_type_fields fields good =
-    All-weaker (λ f. IsGoodWithin 15 f.ty) (λ f. IsGoodType f.ty) (λ f within. good_type f.ty (good_deeper 15 16 f.ty (omega arith) within)) fields
+    All-weaker (λ f. IsGoodWithin 15 f.ty) (λ f. IsGoodType f.ty) (λ f within. good_type f.ty (good_deeper 15 OPEN_TYPES f.ty (omega arith) within)) fields
     (fields_within 15 fields (good_within (V.Struct fields) good))
 
 pub good_type_item : (item : EsiType) (count : ℕ) → IsGoodType (V.Array item count) → IsGoodType item
-good_type_item item count good = good_type item (good_deeper 15 16 item (omega arith) (item_within 15 item count (good_within (V.Array item count) good)))
+good_type_item item count good = good_type item (good_deeper 15 OPEN_TYPES item (omega arith) (item_within 15 item count (good_within (V.Array item count) good)))

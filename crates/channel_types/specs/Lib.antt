@@ -1,9 +1,10 @@
 pub mod Types
+pub mod TypeRules
 pub mod Text
 pub mod Equations
 pub mod Goods
 pub mod TypeGrammar
-pub mod Judged
+pub mod TypeRuleLaws
 pub mod TypeAnswers
 pub mod Pieces
 pub mod PrintedTypes

@@ -1,38 +1,39 @@
--- Pieces of printed text: each is cut into the tokens of a tree of a rule, whatever stands behind it.
+-- Pieces of printed text: each is cut into the tokens of a tree of a rule, whatever stands after it.
 use Rattle.std.proofs.Common.{◌≡◌, ℕ, ◌+◌, ◌<◌, ◌≤◌, ◌^◌, ◌==◌, Bool, true, false, nat_lt, if◌then◌else◌, List, [], ◌∷◌, ◌++◌, length, refl, sym, ap, ◌∙◌, arith, append_assoc, length-append}
 use Rattle.std.proofs.lemmas.Bool.Decides.{nat_tests}
 use Rattle.std.specs.Fmt.{decimal}
-use Rattle.grammar_law.specs.Rule.{Rule, Tree}
-use Rattle.grammar_law.specs.Rule.Rule.{one, seq, star}
-use Rattle.grammar_law.specs.Rule.Tree.{leaf, pair, last, turn}
-use Rattle.grammar_law.specs.Kinds.{among, spell, first, second}
-use Rattle.grammar_law.specs.Trees.{Judges, Fits}
-use Rattle.grammar_law.specs.Trees.Fits.{fits_one, fits_seq, fits_last, fits_turn}
-use Rattle.grammar_law.specs.Bridge.{leaf_by, items}
-use Rattle.grammar_law.specs.Turns.{is_of_kind}
-use Rattle.esi_lex.specs.Octet.{is_sign, is_word_octet}
-use Rattle.esi_lex.specs.Cuts.{stops}
-use Rattle.esi_lex.specs.Spellings.{IsWordText, class_letters}
-use Rattle.esi_lex.specs.Printed.{space_cut, sign_cut, word_cut, type_word_cut, number_cut}
-use Rattle.esi_lex.specs.Tokens.{lexemes_from}
-use Rattle.esi_lex.specs.declared.token.Class.{Class}
-use Rattle.esi_lex.specs.declared.token.Token.{Token}
-use Rattle.esi_lex.specs.declared.token.Token.TheVariants.{Word, TypeWord as WidthWord, Number, Sign}
-use Rattle.design_tokens.specs.declared.kind.Kind.{Kind}
-use Rattle.design_tokens.specs.declared.kind.Kind.TheVariants.{TypeWord, One, Small, Great}
-use Rattle.design_tokens.specs.Kinds.{code, counts, word_kind}
-use Rattle.design_tokens.specs.Grammar.{kind_code, word_in, number_in, width_in}
-use Rattle.design_tokens.specs.Names.{IsName}
-use Rattle.design_tokens.specs.Rules.{designs, token, a_name}
+use Rattle.design_lex.specs.declared.limits.TheConstants.{WIDEST_TYPE}
+use Rattle.ll1_grammar.specs.Rule.{Rule, Tree}
+use Rattle.ll1_grammar.specs.Rule.Rule.{one, seq, star}
+use Rattle.ll1_grammar.specs.Rule.Tree.{leaf, pair, last, turn}
+use Rattle.ll1_grammar.specs.Kinds.{among, spell, first, second}
+use Rattle.ll1_grammar.specs.Trees.{Checks, Fits}
+use Rattle.ll1_grammar.specs.Trees.Fits.{fits_one, fits_seq, fits_last, fits_turn}
+use Rattle.ll1_grammar.specs.Bridge.{leaf_by, items}
+use Rattle.ll1_grammar.specs.Loops.{is_of_kind}
+use Rattle.design_lex.specs.Octet.{is_sign, is_word_octet}
+use Rattle.design_lex.specs.Cuts.{stops}
+use Rattle.design_lex.specs.Spellings.{IsWordText, class_letters}
+use Rattle.design_lex.specs.Printed.{space_cut, sign_cut, word_cut, type_word_cut, number_cut}
+use Rattle.design_lex.specs.Tokens.{lexemes_from}
+use Rattle.design_lex.specs.declared.token.Class.{Class}
+use Rattle.design_lex.specs.declared.token.Token.{Token}
+use Rattle.design_lex.specs.declared.token.Token.TheVariants.{Word, TypeWord as WidthWord, Number, Sign}
+use Rattle.design_grammar.specs.declared.kind.Kind.{Kind}
+use Rattle.design_grammar.specs.declared.kind.Kind.TheVariants.{TypeWord, One, Small, Great}
+use Rattle.design_grammar.specs.Kinds.{code, counts, word_kind}
+use Rattle.design_grammar.specs.Grammar.{kind_code, word_in, number_in, width_in}
+use Rattle.design_grammar.specs.Names.{IsName}
+use Rattle.design_grammar.specs.Rules.{designs, token, a_name}
 
--- The lexemes of a text are those of the tree and then those behind it, and the tree is worth this.
-pub record Cut (judge : Judges Token) (called : ℕ → Tree Token → Type 0) (r : Rule) (V : Tree Token → Type 0) (piece behind : List ℕ) (at : ℕ) : Type 0 where
+-- The lexemes of a text are those of the tree and then those after it, and this holds of the tree.
+pub record Cut (check : Checks Token) (called : ℕ → Tree Token → Type 0) (r : Rule) (V : Tree Token → Type 0) (piece behind : List ℕ) (at : ℕ) : Type 0 where
   pub tree : Tree Token
-  pub fits : Fits designs judge called r tree
+  pub fits : Fits designs check called r tree
   pub worth : V tree
   pub cut : lexemes_from 0 false at (piece ++ behind) ≡ spell tree ++ lexemes_from 0 false (at + length piece) behind
 
--- the lexemes of two pieces, one behind the other
+-- the lexemes of two pieces, one after the other
 joined_cut : (at : ℕ) (a b behind : List ℕ) (t u : Tree Token) → lexemes_from 0 false at (a ++ (b ++ behind)) ≡ spell t ++ lexemes_from 0 false (at + length a) (b ++ behind)
     → lexemes_from 0 false (at + length a) (b ++ behind) ≡ spell u ++ lexemes_from 0 false (at + length a + length b) behind
     → lexemes_from 0 false at ((a ++ b) ++ behind) ≡ (spell t ++ spell u) ++ lexemes_from 0 false (at + length (a ++ b)) behind
@@ -52,16 +53,16 @@ small_count n h = of (n == 1) (nat_lt n (2 ^ 32)) refl
     of false true e = refl
     of false false e = absurd (cc small)
 
-module _ (judge : Judges Token) (called : ℕ → Tree Token → Type 0) where
+module _ (check : Checks Token) (called : ℕ → Tree Token → Type 0) where
   -- wherever it stands
   abbrev pub Piece : Rule → (Tree Token → Type 0) → List ℕ → List ℕ → Type 0
-  Piece r V piece behind = (at : ℕ) → Cut judge called r V piece behind at
+  Piece r V piece behind = (at : ℕ) → Cut check called r V piece behind at
 
-  -- one piece behind another
+  -- one piece after another
   pub join : {r s : Rule} {V W : Tree Token → Type 0} (a b behind : List ℕ) → Piece r V a (b ++ behind) → Piece s W b behind → Piece (seq r s) (λ t. V (first t) × W (second t)) (a ++ b) behind
   join {r} {s} {V} {W} a b behind p q at = of (p at) (q (at + length a))
     where
-      of : Cut judge called r V a (b ++ behind) at → Cut judge called s W b behind (at + length a) → Cut judge called (seq r s) (λ t. V (first t) × W (second t)) (a ++ b) behind at
+      of : Cut check called r V a (b ++ behind) at → Cut check called s W b behind (at + length a) → Cut check called (seq r s) (λ t. V (first t) × W (second t)) (a ++ b) behind at
       of x y = record {
         tree = pair x.tree y.tree;
         fits = fits_seq x.fits y.fits;
@@ -73,7 +74,7 @@ module _ (judge : Judges Token) (called : ℕ → Tree Token → Type 0) where
   pub gap : {r : Rule} {V : Tree Token → Type 0} (a behind : List ℕ) → Piece r V a behind → Piece r V (32 ∷ a) behind
   gap {r} {V} a behind p at = of (p (at + 1))
     where
-      of : Cut judge called r V a behind (at + 1) → Cut judge called r V (32 ∷ a) behind at
+      of : Cut check called r V a behind (at + 1) → Cut check called r V (32 ∷ a) behind at
       of x = record {
         tree = x.tree;
         fits = x.fits;
@@ -81,11 +82,11 @@ module _ (judge : Judges Token) (called : ℕ → Tree Token → Type 0) where
         cut = space_cut at (a ++ behind) ∙ (x.cut ∙ ap (λ n. spell x.tree ++ lexemes_from 0 false n behind) (let e : at + 1 + length a ≡ at + length (32 ∷ a) = omega arith in e));
       }
 
-  -- the piece is worth what follows from it
+  -- what follows from a fact of the tree holds of it too
   pub worth_so : {r : Rule} {V W : Tree Token → Type 0} (a behind : List ℕ) → ((t : Tree Token) → V t → W t) → Piece r V a behind → Piece r W a behind
   worth_so {r} {V} {W} a behind f p at = of (p at)
     where
-      of : Cut judge called r V a behind at → Cut judge called r W a behind at
+      of : Cut check called r V a behind at → Cut check called r W a behind at
       of x = record { tree = x.tree; fits = x.fits; worth = f x.tree x.worth; cut = x.cut }
 
   -- one token
@@ -103,7 +104,7 @@ module _ (judge : Judges Token) (called : ℕ → Tree Token → Type 0) where
   pub name_piece : (w behind : List ℕ) → IsName w → stops is_word_octet behind ≡ true → Piece a_name (λ t. leaf_by designs (λ x. word_in x.1) t ≡ w) w behind
   name_piece w behind h s at = record { tree = leaf ((at, at + length w), Word w); fits = fits_one h.no_keyword; worth = refl; cut = word_cut at w behind h.word s }
 
-  pub bits_piece : (class : Class) (width : ℕ) (behind : List ℕ) → width ≤ 1024 → stops is_word_octet behind ≡ true
+  pub bits_piece : (class : Class) (width : ℕ) (behind : List ℕ) → width ≤ WIDEST_TYPE → stops is_word_octet behind ≡ true
       → Piece (token TypeWord) (λ t. leaf_by designs (λ x. width_in x.1) t ≡ (class, width)) (class_letters class ++ decimal width) behind
   bits_piece class width behind h s at = record {
     tree = leaf ((at, at + length (class_letters class ++ decimal width)), WidthWord class width);
@@ -128,7 +129,7 @@ module _ (judge : Judges Token) (called : ℕ → Tree Token → Type 0) where
       → Piece (star r) (λ t. items f t ≡ x ∷ xs) (a ++ b) behind
   star_more {r} {A} f x xs a b behind p q at = of (p at) (q (at + length a))
     where
-      of : Cut judge called r (λ t. f t ≡ x) a (b ++ behind) at → Cut judge called (star r) (λ t. items f t ≡ xs) b behind (at + length a) → Cut judge called (star r) (λ t. items f t ≡ x ∷ xs) (a ++ b) behind at
+      of : Cut check called r (λ t. f t ≡ x) a (b ++ behind) at → Cut check called (star r) (λ t. items f t ≡ xs) b behind (at + length a) → Cut check called (star r) (λ t. items f t ≡ x ∷ xs) (a ++ b) behind at
       of y z = record {
         tree = turn y.tree z.tree;
         fits = fits_turn y.fits z.fits;

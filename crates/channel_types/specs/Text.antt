@@ -1,8 +1,8 @@
--- The text of a type as it is printed: one space behind a comma or a colon, and none elsewhere.
+-- The text of a type as it is printed: one space after a comma or a colon, and none elsewhere.
 use Rattle.std.specs.Prelude.{ℕ, List, [], ◌∷◌, ◌++◌, codes}
 use Rattle.std.specs.List.{flat_map}
 use Rattle.std.specs.Fmt.{decimal}
-use Rattle.esi_lex.specs.Spellings.{class_letters}
+use Rattle.design_lex.specs.Spellings.{class_letters}
 use Rattle.channel_types.specs.declared.esi_type.EsiType.{EsiType}
 use Rattle.channel_types.specs.declared.esi_type.EsiType.TheOpen.{EsiType-F, Field-F}
 use Rattle.channel_types.specs.declared.esi_type.EsiType.TheFolds.{fold-EsiType, fold-Field}

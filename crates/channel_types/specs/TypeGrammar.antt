@@ -1,29 +1,23 @@
--- What the trees of types are worth (the grammar of the design text: `Rules` of design_tokens), and how types are judged:
--- at most 16 types may be open at a place, and a type is judged when its last token was read.
-use Rattle.std.specs.Prelude.{ℕ, zero, suc, nat_lt, ◌==◌, ◌||◌, if◌then◌else◌, ◌∷◌}
-use Rattle.grammar_law.specs.Rule.{Tree}
-use Rattle.grammar_law.specs.Kinds.{first, second, inside}
-use Rattle.grammar_law.specs.Trees.{Judges}
-use Rattle.grammar_law.specs.Bridge.{leaf_by, either, items}
-use Rattle.grammar_law.specs.Looser.{no_judge}
-use Rattle.grammar_law.specs.Laws.{Limits}
-use Rattle.esi_lex.specs.declared.token.Token.{Token}
-use Rattle.design_tokens.specs.Grammar.{word_in, number_in, width_in}
-use Rattle.design_tokens.specs.Rules.{designs}
+-- The values of the trees of types (the grammar of the design text: `Rules` of design_grammar), and how types are checked:
+-- when the last token was read.
+use Rattle.std.specs.Prelude.{ℕ, zero, suc, ◌∷◌}
+use Rattle.ll1_grammar.specs.Rule.{Tree}
+use Rattle.ll1_grammar.specs.Kinds.{first, second, inside}
+use Rattle.ll1_grammar.specs.Trees.{Checks}
+use Rattle.ll1_grammar.specs.Bridge.{leaf_by, either, items}
+use Rattle.design_lex.specs.declared.token.Token.{Token}
+use Rattle.design_grammar.specs.Grammar.{word_in, number_in, width_in}
+use Rattle.design_grammar.specs.Rules.{designs}
 use Rattle.channel_types.specs.declared.esi_type.EsiType.{EsiType}
 use Rattle.channel_types.specs.declared.esi_type.EsiType.TheVariants as V
-use Rattle.channel_types.specs.declared.esi_type.EsiType.TheViews.{out-EsiType}
 use Rattle.channel_types.specs.declared.esi_type.Field.{Field}
-use Rattle.channel_types.specs.Types.{width_of, level_names, has_repeat}
+use Rattle.channel_types.specs.TypeRules.{broken_rule, number_or_zero}
 
--- The number of the refusal of a type all of whose parts are good: 101 for a width of 0 or above 1,024, then 102 for a
--- repeated field name, and 0 for none.
-abbrev pub judge_of : EsiType → ℕ
-judge_of ty =
-    if width_of ty == 0 || nat_lt 1024 (width_of ty) then 101
-    else (if has_repeat (level_names (out-EsiType ty)) then 102 else 0)
+-- The number of the rule that a type breaks all of whose parts are good, 0 for none.
+abbrev pub check_of : EsiType → ℕ
+check_of ty = number_or_zero (broken_rule ty)
 
--- What a type's tree is worth: the type, and the offset behind its last octet. `inner` is that of the types in it.
+-- The value of a tree of a type: the type, and the offset after its last octet. `inner` is that of the types in it.
 abbrev pub Found : Type 0
 Found = EsiType × ℕ
 
@@ -50,10 +44,6 @@ abbrev pub type_of : ℕ → Tree Token → Found
 type_of zero t = (V.Void, 0)
 type_of (suc d) t = level_in (type_of d) (inside (inside t))
 
--- a level is judged by what it is worth
-abbrev pub type_judge : ℕ → Judges Token
-type_judge d c t = judge_of (level_in (type_of d) t).0
-
--- at most 16 types inside one another
-abbrev pub type_limits : Limits Token
-type_limits = record { depth = 16; judges = type_judge; judge = no_judge }
+-- a level is checked by its value
+abbrev pub type_check : ℕ → Checks Token
+type_check d c t = check_of (level_in (type_of d) t).0

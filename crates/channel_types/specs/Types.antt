@@ -2,11 +2,13 @@
 use Rattle.std.specs.Prelude.{◌≡◌, ℕ, Bool, ◌+◌, ◌*◌, ◌≤◌, false, ◌||◌, List, [], ◌∷◌, sum, map, max, All}
 use Rattle.std.specs.List.{sum_by}
 use Rattle.std.specs.Str.{bytes_eq}
-use Rattle.design_tokens.specs.Names.{IsName}
+use Rattle.design_lex.specs.declared.limits.TheConstants.{WIDEST_TYPE}
+use Rattle.design_grammar.specs.Names.{IsName}
 use Rattle.channel_types.specs.declared.esi_type.EsiType.{EsiType}
 use Rattle.channel_types.specs.declared.esi_type.EsiType.TheOpen.{EsiType-F, Field-F}
 use Rattle.channel_types.specs.declared.esi_type.EsiType.TheFolds.{fold-EsiType, fold-Field, every-EsiType, every-Field}
 use Rattle.channel_types.specs.declared.esi_type.Field.{Field}
+use Rattle.channel_types.specs.declared.limits.TheConstants.{OPEN_TYPES}
 
 -- The width of a type in bits: `void` is one bit, a struct's fields add up, and an array is count times its item.
 abbrev pub width_step : EsiType-F ℕ ℕ → ℕ
@@ -71,7 +73,7 @@ level_names level = []
 -- A type is of a good width, and its fields have names of their own.
 pub record IsLevel (level : EsiType-F EsiType Field) : Type 0 where
   pub low : 1 ≤ level_width level
-  pub high : level_width level ≤ 1024
+  pub high : level_width level ≤ WIDEST_TYPE
   pub names : All IsName (level_names level)
   pub distinct : has_repeat (level_names level) ≡ false
 
@@ -82,8 +84,8 @@ IsEachGood = every-EsiType IsLevel (λ f. Unit {0})
 abbrev pub IsGoodField : Field → Type 0
 IsGoodField = every-Field IsLevel (λ f. Unit {0})
 
--- A type is good where it and every type in it has a width of 1 to 1,024 bits and field names that are names of the
--- design text and distinct, and at most 16 types stand inside one another.
+-- A type is good where it and every type in it has a width of 1 to `WIDEST_TYPE` bits and field names that are names of the
+-- design text and distinct, and at most `OPEN_TYPES` types stand inside one another.
 pub record IsGoodType (ty : EsiType) : Type 0 where
   pub each : IsEachGood ty
-  pub nesting : nesting_of ty ≤ 16
+  pub nesting : nesting_of ty ≤ OPEN_TYPES

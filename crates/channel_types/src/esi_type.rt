@@ -1,6 +1,6 @@
 //! The types of channels.
+use design_lex::Class;
 use esi_base::Octets;
-use esi_lex::Class;
 use sqlite_items::{Boxed, Items};
 
 /// What a channel carries.

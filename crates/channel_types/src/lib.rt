@@ -3,14 +3,16 @@
 
 mod copy;
 pub mod esi_type;
+pub mod limits;
 mod names;
 pub mod printing;
 mod same;
-#[cfg(test)]
-mod tests;
+pub mod type_rule;
 mod width;
 
-pub use esi_lex::Class;
+pub use design_lex::{Class, WIDEST_TYPE};
 pub use esi_type::{EsiType, Field};
+pub use limits::OPEN_TYPES;
 pub use names::names_repeat;
+pub use type_rule::TypeRule;
 pub use width::capped_width;

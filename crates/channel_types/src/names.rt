@@ -1,4 +1,4 @@
-//! Whether fields have names of their own.
+//! Whether two fields have the same name.
 ghost use Rattle.std.specs.Prelude.{◌≡◌, IfOk, map};
 ghost use Rattle.channel_types.specs.Types.{has_repeat, name_of};
 

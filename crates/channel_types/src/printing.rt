@@ -2,17 +2,17 @@
 ghost use Rattle.std.specs.Prelude.{◌≡◌, ◌≤◌, ◌++◌, drop, IfOk, OnOk, OnErr};
 ghost use Rattle.std.specs.Fmt.{decimal};
 ghost use Rattle.channel_types.specs.Text.{text_of};
-ghost use Rattle.esi_lex.specs.Spellings.{class_letters};
+ghost use Rattle.design_lex.specs.Spellings.{class_letters};
 ghost use Rattle.channel_types.specs.Types.{IsGoodType};
 ghost use Rattle.channel_types.specs.TypeAnswers.{IsTypeText};
 
 use crate::esi_type::EsiType;
+use design_lex::Class;
 use esi_base::{List, NoMemory, Octets};
-use esi_lex::Class;
 use std::alloc::Global;
 
 impl EsiType {
-    /// The text of the type, with one space behind a comma or a colon, and none elsewhere.
+    /// The text of the type, with one space after a comma or a colon, and none elsewhere.
     #[tactic(auto, using(crate::specs::PrintedTypes::printed_is_type))]
     pub fn print_type(&self, alloc: Global) -> Result<Octets, NoMemory>
         requires { IsGoodType self.now }
@@ -62,8 +62,8 @@ fn push_type(text: &mut Octets, ty: &EsiType) -> Result<(), NoMemory>
     Ok(())
 }
 
-/// Adds the letters with which the type words of a class begin. It fails for want of memory alone,
-/// and then leaves the text as it was.
+/// Adds the letters with which the type words of a class begin. It fails only when it runs out of
+/// memory, and then leaves the text as it was.
 pub fn push_class(text: &mut Octets, class: Class) -> Result<(), NoMemory>
     ensures pushed { OnOk result (text.new ≡ text.old ++ class_letters class) }
     ensures unchanged { OnErr result (text.new ≡ text.old) }
@@ -84,8 +84,8 @@ fn letters_of(class: Class) -> &'static [u8]
     }
 }
 
-/// Adds a number in decimal, without a leading zero. It takes no memory but for the text. It fails for
-/// want of memory alone, and then leaves the text as it was.
+/// Adds a number in decimal, without a leading zero. It takes memory for the text alone. It fails only
+/// when it runs out of memory, and then leaves the text as it was.
 pub fn push_number(text: &mut Octets, number: u128) -> Result<(), NoMemory>
     ensures pushed { OnOk result (text.new ≡ text.old ++ decimal number) }
     ensures unchanged { OnErr result (text.new ≡ text.old) }
@@ -96,8 +96,8 @@ pub fn push_number(text: &mut Octets, number: u128) -> Result<(), NoMemory>
     Ok(())
 }
 
-/// Puts the decimal digits of a number at the end of the array, which has room for those of every
-/// number, and tells where they start.
+/// Writes the decimal digits of a number at the end of the array, which has room for those of every
+/// number. The result is the index of the first one.
 #[tactic(auto, using(crate::proofs::Decimals::none_put, crate::proofs::Decimals::digits_before, crate::proofs::Decimals::first_put))]
 fn put_digits(digits: &mut [u8; 39], number: u128) -> usize
     ensures within { result ≤ 39 }

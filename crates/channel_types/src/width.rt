@@ -3,9 +3,7 @@ ghost use Rattle.std.specs.Prelude.{◌≡◌, ◌≤◌, min};
 ghost use Rattle.channel_types.specs.Types.{width_of, IsGoodType};
 
 use crate::esi_type::EsiType;
-
-/// What stands for every width above 1,024 bits.
-const TOO_WIDE: u32 = 1025;
+use design_lex::{TOO_WIDE, WIDEST_TYPE};
 
 impl EsiType {
     /// The width in bits. It takes no memory.
@@ -13,16 +11,16 @@ impl EsiType {
         requires { IsGoodType self.now }
         ensures width { result ≡ width_of self.now }
         ensures low { 1 ≤ result }
-        ensures high { result ≤ 1024 }
+        ensures high { result ≤ WIDEST_TYPE }
     {
         capped_width(self)
     }
 }
 
-/// The width in bits, where 1,025 stands for every width above 1,024. It takes no memory. It serves
-/// the judge of types that are being read, which need not be good.
+/// The width in bits, where `TOO_WIDE` stands for every width above the greatest one. It takes no memory.
+/// It serves the check of types that are being read, which need not be good.
 pub fn capped_width(ty: &EsiType) -> u32
-    ensures { result ≡ min 1025 (width_of ty.now) }
+    ensures { result ≡ min TOO_WIDE (width_of ty.now) }
 {
     match ty {
         EsiType::Bits { class: _, width } => capped(*width as u64),
@@ -40,9 +38,9 @@ pub fn capped_width(ty: &EsiType) -> u32
     }
 }
 
-/// A width, with 1,025 for every greater one.
+/// A width, with `TOO_WIDE` for every width above the greatest one.
 fn capped(width: u64) -> u32
-    ensures { result ≡ min 1025 width }
+    ensures { result ≡ min TOO_WIDE width }
 {
     if width < TOO_WIDE as u64 {
         width as u32

@@ -7,16 +7,16 @@ use Rattle.esi_types.specs.declared.directory.Side.{Side}
 use Rattle.esi_types.specs.declared.directory.Side.TheVariants.{ToServer, ToClient}
 use Rattle.esi_types.specs.declared.endpoint.Endpoint.{Endpoint}
 
--- the place, from 0, of the first of these endpoints that has the name
-abbrev pub place_of : List ℕ → List Endpoint → Option ℕ
-place_of name endpoints = position (λ e. bytes_eq e.name name) endpoints
+-- the index, from 0, of the first of these endpoints that has the name
+abbrev pub index_of : List ℕ → List Endpoint → Option ℕ
+index_of name endpoints = position (λ e. bytes_eq e.name name) endpoints
 
--- the side and the place of the first endpoint of the name, where to-server endpoints come first
+-- the side and the index of the first endpoint of the name, where to-server endpoints come first
 abbrev pub find_of : Directory → List ℕ → Option (Side × ℕ)
 find_of directory name =
     option_or
-    (option_map (λ place. (ToServer, place)) (place_of name directory.to_server))
-    (option_map (λ place. (ToClient, place)) (place_of name directory.to_client))
+    (option_map (λ index. (ToServer, index)) (index_of name directory.to_server))
+    (option_map (λ index. (ToClient, index)) (index_of name directory.to_client))
 
 -- the endpoints of a side
 abbrev pub endpoints_of : Directory → Side → List Endpoint
@@ -32,9 +32,9 @@ pub record IsUnknown (directory : Directory) (name : List ℕ) : Type 0 where
   pub to_server : NoneNamed name directory.to_server
   pub to_client : NoneNamed name directory.to_client
 
--- The endpoint at this place of this side has the name, and no endpoint before it has: neither one of its own side, nor
+-- The endpoint at this index of this side has the name, and no endpoint before it has: neither one of its own side, nor
 -- a to-server endpoint where it is a to-client one.
-pub record IsFirstNamed (directory : Directory) (name : List ℕ) (side : Side) (place : ℕ) : Type 0 where
-  pub named : IsSomeAnd (slice_get (endpoints_of directory side) place) (λ e. e.name ≡ name)
-  pub before : NoneNamed name (take place (endpoints_of directory side))
+pub record IsFirstNamed (directory : Directory) (name : List ℕ) (side : Side) (index : ℕ) : Type 0 where
+  pub named : IsSomeAnd (slice_get (endpoints_of directory side) index) (λ e. e.name ≡ name)
+  pub before : NoneNamed name (take index (endpoints_of directory side))
   pub other_side : side ≡ ToClient → NoneNamed name directory.to_server

@@ -5,8 +5,11 @@ ghost use Rattle.esi_types.specs.declared.directory.TheConstants.{SIDE_ENDPOINTS
 use crate::endpoint::Endpoint;
 use esi_base::List;
 
-/// How many endpoints each side has at most.
+/// How many endpoints each side has at most. It bounds how many rings and nets one design makes a server
+/// hold.
 pub const SIDE_ENDPOINTS: usize = 32;
+
+const _: () = prove!(SIDE_ENDPOINTS == 32);
 
 /// The two ways of a channel.
 #[derive(Clone, Copy, Debug, PartialEq, Eq)]
@@ -27,26 +30,26 @@ pub struct Directory {
 }
 
 impl Directory {
-    ghost use Rattle.esi_types.specs.Directory.{place_of, find_of, IsUnknown, IsFirstNamed};
+    ghost use Rattle.esi_types.specs.Directory.{index_of, find_of, IsUnknown, IsFirstNamed};
 
-    /// The side and the place of the first endpoint that has the name, to-server endpoints first; None
+    /// The side and the index of the first endpoint that has the name, to-server endpoints first; None
     /// exactly where no endpoint has it. It takes no memory.
     pub fn find(&self, name: &[u8]) -> Option<(Side, u32)>
         ensures found { result ≡ find_of self.now name.now }
         ensures none { IsNone result ↔ IsUnknown self.now name.now }
         ensures first { IfSome result (λ found. IsFirstNamed self.now name.now found.0 found.1) }
     {
-        if let Some(place) = Directory::first_named(self.to_server.as_slice(), name) {
-            return Some((Side::ToServer, place as u32));
+        if let Some(index) = Directory::first_named(self.to_server.as_slice(), name) {
+            return Some((Side::ToServer, index as u32));
         }
-        let place = Directory::first_named(self.to_client.as_slice(), name)?;
-        Some((Side::ToClient, place as u32))
+        let index = Directory::first_named(self.to_client.as_slice(), name)?;
+        Some((Side::ToClient, index as u32))
     }
 
-    /// The place of the first of these endpoints that has the name.
+    /// The index of the first of these endpoints that has the name.
     fn first_named(endpoints: &[Endpoint], name: &[u8]) -> Option<usize>
-        ensures place { result ≡ place_of name.now endpoints.now }
-        ensures within { IfSome result (λ place. place < length endpoints.now) }
+        ensures index { result ≡ index_of name.now endpoints.now }
+        ensures within { IfSome result (λ index. index < length endpoints.now) }
     {
         endpoints
             .iter()

@@ -1,13 +1,11 @@
-//! Channel types and endpoints, by which all later crates name them: what a channel carries, the end of
-//! a channel, and the directory of a design's endpoints.
+//! Channel types and endpoints, by the names that the crates above use: what a channel carries, how the
+//! text of a type is read and written, the end of a channel, and the directory of a design's endpoints.
 #![tactic(auto)]
 
 mod directory;
 mod endpoint;
-#[cfg(test)]
-mod tests;
 
-pub use channel_types::{Class, EsiType, Field};
+pub use channel_types::{Class, EsiType, Field, OPEN_TYPES, TypeRule, printing};
+pub use design_types::{next_type, parse_type, read_type};
 pub use directory::{Directory, SIDE_ENDPOINTS, Side};
 pub use endpoint::Endpoint;
-pub use type_reader::{parse_type, read_type};

@@ -1,4 +1,4 @@
--- What is left to test tells what all of it does.
+-- Testing what is left gives what testing all of it gives.
 use Rattle.std.proofs.Common.{◌≡◌, map, take, true}
 use Rattle.std.specs.List.{list_all}
 use Rattle.bit_packing.specs.Fitting.{fits_of, field_fits, pass_each}

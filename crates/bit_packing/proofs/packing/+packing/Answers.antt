@@ -1,6 +1,7 @@
 -- What a struct's fields or an array's items need is what the type and the value give; then a value a step.
 use Rattle.std.proofs.Common.{rules, ◌≡◌, ◌≤◌, ◌+◌, ◌*◌, All, true, [], length, drop, get_or, map, sym, ap, ◌∙◌, subst, arith, append-nil}
 use Rattle.std.specs.List.{sum_by, list_all}
+use Rattle.esi_base.specs.declared.word.TheConstants.{WORD_BITS}
 use Rattle.channel_types.specs.Types.{IsGoodType, width_of, field_width}
 use Rattle.channel_types.specs.Equations.{width-Struct}
 use Rattle.channel_types.specs.declared.esi_type.EsiType.TheViews.{the_lemmas}
@@ -19,7 +20,7 @@ packed-packed_fields-requires t c =
         subst (All HasGoodType) same given.0,
         (
           subst (λ fs. fits_fields (map field_fits fs) c.as_slice.result.now ≡ true) same (subst (λ vs. fits_fields (map field_fits c.in-Struct-Struct.fields) vs ≡ true) sames given.1),
-          (subst (λ fs. 1 ≤ length fs) same given.2, subst (λ fs. sum_by field_width fs ≤ 1024) same given.3),
+          (subst (λ fs. 1 ≤ length fs) same given.2, subst (λ fs. sum_by field_width fs ≤ WORD_BITS) same given.3),
         ),
       ),
     )
@@ -38,7 +39,7 @@ packed-packed_items-requires t c =
           subst (λ ty. list_all (fits_of ty) c.as_slice-in-Array-Array.result.now ≡ true) same (subst (λ vs. list_all (fits_of item) vs ≡ true) sames given.1),
           (
             subst (λ vs. 1 ≤ length vs) sames given.2,
-            subst (λ ty. length c.as_slice-in-Array-Array.result.now * width_of ty ≤ 1024) same (subst (λ vs. length vs * width_of item ≤ 1024) sames given.3),
+            subst (λ ty. length c.as_slice-in-Array-Array.result.now * width_of ty ≤ WORD_BITS) same (subst (λ vs. length vs * width_of item ≤ WORD_BITS) sames given.3),
           ),
         ),
       ),
