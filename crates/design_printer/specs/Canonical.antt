@@ -1,10 +1,10 @@
 -- The canonical text of tokens (docs/design-text.md, section "Printing").
 use Rattle.std.specs.Prelude.{◌≡◌, ℕ, Bool, false, ◌==◌, ◌||◌, if◌then◌else◌, List, [], ◌∷◌, ◌++◌, codes, refl}
 use Rattle.std.specs.Fmt.{decimal, digits}
-use Rattle.esi_lex.specs.Spellings.{class_letters}
-use Rattle.esi_lex.specs.declared.token.Class.TheVariants.{Unsigned}
-use Rattle.esi_lex.specs.declared.token.Token.{Token}
-use Rattle.esi_lex.specs.declared.token.Token.TheVariants.{Word, TypeWord, Number, Sign, Faulty, End}
+use Rattle.design_lex.specs.Spellings.{class_letters}
+use Rattle.design_lex.specs.declared.token.Class.TheVariants.{Unsigned}
+use Rattle.design_lex.specs.declared.token.Token.{Token}
+use Rattle.design_lex.specs.declared.token.Token.TheVariants.{Word, TypeWord, Number, Sign, Faulty, End}
 
 -- the octets of a token: numbers are decimal
 abbrev pub token_text : Token → List ℕ
@@ -24,7 +24,7 @@ is_sign_with test (Sign b) = test b
 is_sign_with test (Faulty fault) = false
 is_sign_with test End = false
 
--- behind ; { } a line ends
+-- after ; { } a line ends
 abbrev pub ends_line : Token → Bool
 ends_line = is_sign_with (λ b. b == 59 || b == 123 || b == 125)
 
@@ -32,19 +32,19 @@ ends_line = is_sign_with (λ b. b == 59 || b == 123 || b == 125)
 abbrev pub no_space_before : Token → Bool
 no_space_before = is_sign_with (λ b. b == 59 || b == 58 || b == 44 || b == 46 || b == 41 || b == 93 || b == 62 || b == 60 || b == 91 || b == 40)
 
--- behind ( [ < . stands no space
-abbrev pub no_space_behind : Token → Bool
-no_space_behind = is_sign_with (λ b. b == 40 || b == 91 || b == 60 || b == 46)
+-- after ( [ < . stands no space
+abbrev pub no_space_after : Token → Bool
+no_space_after = is_sign_with (λ b. b == 40 || b == 91 || b == 60 || b == 46)
 
--- what stands behind a token before the next one
+-- what stands after a token before the next one
 abbrev pub line_end : Token → List ℕ
 line_end t = if ends_line t then 10 ∷ [] else []
 
 -- what stands between two tokens: LF where a line ends, else one space or nothing
 abbrev pub gap : Token → Token → List ℕ
-gap t u = if ends_line t then 10 ∷ [] else (if no_space_behind t || no_space_before u then [] else 32 ∷ [])
+gap t u = if ends_line t then 10 ∷ [] else (if no_space_after t || no_space_before u then [] else 32 ∷ [])
 
--- The text of the tokens in order, with the gap of each two between them, and the end of the line behind the last one.
+-- The text of the tokens in order, with the gap of each two between them, and the end of the line after the last one.
 abbrev pub canonical : List Token → List ℕ
 canonical [] = []
 canonical (t ∷ []) = token_text t ++ line_end t

@@ -2,28 +2,29 @@
 use Rattle.std.proofs.Common.{◌≡◌, ℕ, ◌<◌, ◌≤◌, ◌^◌, ◌+◌, Bool, true, false, not, eqb, cond, ◌||◌, List, [], ◌∷◌, ◌++◌, length, map, inl, inr, refl, sym, ap, ◌∙◌, subst}
 use Rattle.std.specs.Prelude.{All}
 use Rattle.std.proofs.lemmas.List.Elements.{All-head, All-tail}
-use Rattle.esi_lex.specs.Octet.{is_sign, is_word_octet}
-use Rattle.esi_lex.specs.Cuts.{stops}
-use Rattle.esi_lex.specs.CutLaw.{answers}
-use Rattle.esi_lex.specs.CutOnly.{not_at}
-use Rattle.esi_lex.specs.Spellings.{IsWordText}
-use Rattle.esi_lex.specs.Printed.{space_cut, line_end_cut, nothing_cut, sign_cut, word_cut, type_word_cut, number_cut}
-use Rattle.esi_lex.specs.Tokens.{Lexeme, lexemes_from, tokens}
-use Rattle.esi_lex.specs.declared.token.Token.{Token}
-use Rattle.esi_lex.specs.declared.token.Token.TheVariants.{Word, TypeWord, Number, Sign, Faulty, End}
-use Rattle.design_printer.specs.Canonical.{canonical, token_text, line_end, gap, ends_line, no_space_before, no_space_behind}
+use Rattle.design_lex.specs.declared.limits.TheConstants.{WIDEST_TYPE}
+use Rattle.design_lex.specs.Octet.{is_sign, is_word_octet}
+use Rattle.design_lex.specs.Cuts.{stops}
+use Rattle.design_lex.specs.CutLaw.{answers}
+use Rattle.design_lex.specs.CutOnly.{not_at}
+use Rattle.design_lex.specs.Spellings.{IsWordText}
+use Rattle.design_lex.specs.Printed.{space_cut, line_end_cut, nothing_cut, sign_cut, word_cut, type_word_cut, number_cut}
+use Rattle.design_lex.specs.Tokens.{Lexeme, lexemes_from, tokens}
+use Rattle.design_lex.specs.declared.token.Token.{Token}
+use Rattle.design_lex.specs.declared.token.Token.TheVariants.{Word, TypeWord, Number, Sign, Faulty, End}
+use Rattle.design_printer.specs.Canonical.{canonical, token_text, line_end, gap, ends_line, no_space_before, no_space_after}
 
--- A token that can be printed: a word that is spelled as one, a type word of at most 1,024 bits, a number below 2^128,
+-- A token that can be printed: a word that is spelled as one, a type word up to the widest type, a number below 2^128,
 -- or one of the signs.
 abbrev pub IsPrintable : Token → Type 0
 IsPrintable (Word w) = IsWordText w
-IsPrintable (TypeWord class width) = width ≤ 1024
+IsPrintable (TypeWord class width) = width ≤ WIDEST_TYPE
 IsPrintable (Number n) = n < 2 ^ 128
 IsPrintable (Sign b) = is_sign b ≡ true
 IsPrintable (Faulty fault) = ⊥
 IsPrintable End = ⊥
 
--- the token of a lexeme, its offsets aside
+-- the token of a lexeme, without its offsets
 abbrev pub token_in : Lexeme → Token
 token_in x = x.1
 
@@ -32,14 +33,14 @@ is_no_sign : Token → Bool
 is_no_sign (Sign b) = false
 is_no_sign t = true
 
--- The lexemes of a text: this token, and then those of the text behind it.
+-- The lexemes of a text: this token, and then those of the text after it.
 record CutsAs (t : Token) (text behind : List ℕ) (at : ℕ) : Type 0 where
   begin : ℕ
   end : ℕ
   next : ℕ
   same : lexemes_from 0 false at text ≡ ((begin, end), t) ∷ lexemes_from 0 false next behind
 
--- behind a token stands a sign, a blank or nothing, or it is a sign itself
+-- after a token stands a sign, a blank or nothing, or it is a sign itself
 token_cut : (t : Token) (behind : List ℕ) (at : ℕ) → IsPrintable t → (is_no_sign t ≡ true → stops is_word_octet behind ≡ true) → CutsAs t (token_text t ++ behind) behind at
 unfolding is_no_sign
 token_cut (Word w) behind at good free = record { begin = at; end = at + length w; next = at + length w; same = word_cut at w behind good (free refl) }
@@ -109,7 +110,7 @@ line_end_cut_away t at = of (ends_line t)
 
 -- a gap is passed
 gap_cut : (t u : Token) (z : List ℕ) (at : ℕ) → (next : ℕ) × (lexemes_from 0 false at (gap t u ++ z) ≡ lexemes_from 0 false next z)
-gap_cut t u z at = of (ends_line t) (no_space_behind t || no_space_before u)
+gap_cut t u z at = of (ends_line t) (no_space_after t || no_space_before u)
   where
     of : (a b : Bool) → (next : ℕ) × (lexemes_from 0 false at (cond {A = List ℕ} a (10 ∷ []) (cond b [] (32 ∷ [])) ++ z) ≡ lexemes_from 0 false next z)
     of true b = (at + 1, line_end_cut at z)
@@ -131,6 +132,6 @@ cut_again (t ∷ (u ∷ ts)) at good =
     let passed = gap_cut t u (canonical (u ∷ ts)) first.next in
     ap (λ (xs : List Lexeme). map token_in xs) first.same ∙ ap (λ (us : List Token). t ∷ us) (ap (λ (xs : List Lexeme). map token_in xs) passed.1 ∙ cut_again (u ∷ ts) passed.0 others)
 
--- So the tokens of the canonical text are the tokens, offsets aside.
+-- So the tokens of the canonical text are the tokens, apart from offsets.
 pub canonical_tokens : (ts : List Token) → All IsPrintable ts → map token_in (tokens (canonical ts) 0) ≡ ts
 canonical_tokens ts good = cut_again ts 0 good

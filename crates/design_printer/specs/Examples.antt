@@ -1,8 +1,8 @@
 -- Worked texts: where lines end, and where no space stands.
 use Rattle.std.specs.Prelude.{◌≡◌, [], ◌∷◌, codes, refl}
 use Rattle.std.specs.Fmt.{digits}
-use Rattle.esi_lex.specs.declared.token.Class.TheVariants.{Unsigned}
-use Rattle.esi_lex.specs.declared.token.Token.TheVariants.{Word, TypeWord, Number}
+use Rattle.design_lex.specs.declared.token.Class.TheVariants.{Unsigned}
+use Rattle.design_lex.specs.declared.token.Token.TheVariants.{Word, TypeWord, Number}
 use Rattle.design_tree.specs.Tokens.{SEMICOLON, COLON, COMMA, DOT, EQUALS, OPEN_BRACE, CLOSE_BRACE, OPEN, CLOSE, LESS, GREATER, OPEN_BRACKET, CLOSE_BRACKET}
 use Rattle.design_printer.specs.Canonical.{canonical}
 

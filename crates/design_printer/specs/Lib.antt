@@ -1,6 +1,6 @@
 pub mod Canonical
 pub mod Examples
-pub mod Added
+pub mod Printers
 pub mod TextFrom
 pub mod CutAgain
 pub mod TextTokens

@@ -4,11 +4,11 @@ use Rattle.std.specs.Prelude.{codes, All}
 use Rattle.std.specs.List.{flat_map}
 use Rattle.std.proofs.Math.Nat.{le-mul_of_pos_right}
 use Rattle.std.proofs.lemmas.List.Elements.{All-nil, All-cons, All-head, All-tail, All-append}
-use Rattle.esi_lex.specs.Spellings.{IsWordText}
-use Rattle.esi_lex.specs.Tokens.{word_token}
-use Rattle.esi_lex.specs.declared.token.Token.{Token}
-use Rattle.esi_lex.specs.declared.token.Token.TheVariants.{Word, TypeWord, Number}
-use Rattle.design_tokens.specs.Names.{IsName}
+use Rattle.design_lex.specs.Spellings.{IsWordText}
+use Rattle.design_lex.specs.Tokens.{word_token}
+use Rattle.design_lex.specs.declared.token.Token.{Token}
+use Rattle.design_lex.specs.declared.token.Token.TheVariants.{Word, TypeWord, Number}
+use Rattle.design_grammar.specs.Names.{IsName}
 use Rattle.channel_types.specs.declared.esi_type.EsiType.{EsiType}
 use Rattle.channel_types.specs.declared.esi_type.EsiType.TheVariants as V
 use Rattle.channel_types.specs.declared.esi_type.EsiType.TheVariants.{rolls-Bits, rolls-Void, rolls-Struct, rolls-Array}
@@ -18,7 +18,7 @@ use Rattle.channel_types.specs.declared.esi_type.Field.{Field}
 use Rattle.channel_types.specs.Types.{name_of, width_of, nesting_of, IsGoodType}
 use Rattle.channel_types.specs.Equations.{nesting-Bits, nesting-Void, nesting-Struct, nesting-Array}
 use Rattle.channel_types.specs.Goods.{IsGoodWithin, good_level_Bits, good_level_Struct, good_level_Array, good_low, good_within, fields_within, item_within}
-use Rattle.design_tree.specs.Tokens.{listed, type_tokens, field_tokens, COLON, COMMA, LESS, GREATER}
+use Rattle.design_tree.specs.Tokens.{with_commas, type_tokens, field_tokens, COLON, COMMA, LESS, GREATER}
 use Rattle.design_tree.specs.Equations.{type-Bits, type-Void, type-Struct, type-Array, type-field}
 use Rattle.design_printer.specs.CutAgain.{IsPrintable}
 
@@ -38,7 +38,7 @@ behind_commas [] all = none_printable
 behind_commas (x ∷ xs) all =
     All-append IsPrintable (COMMA ∷ x) (flat_map (λ y. COMMA ∷ y) xs) (one_more COMMA x refl (All-head ArePrintable x xs all)) (behind_commas xs (All-tail ArePrintable x xs all))
 
-pub listed_printable : (xs : List (List Token)) → All ArePrintable xs → ArePrintable (listed xs)
+pub listed_printable : (xs : List (List Token)) → All ArePrintable xs → ArePrintable (with_commas xs)
 listed_printable [] all = none_printable
 listed_printable (x ∷ xs) all = All-append IsPrintable x (flat_map (λ y. COMMA ∷ y) xs) (All-head ArePrintable x xs all) (behind_commas xs (All-tail ArePrintable x xs all))
 
@@ -81,10 +81,10 @@ module _ (d : ℕ) (below : (ty : EsiType) → IsGoodWithin d ty → ArePrintabl
       let good_here = subst (λ z. IsGoodWithin (d + 1) z) (sym same) good in
       let level = good_level_Struct fields good_here.each in
       let parts = listed_printable (map field_tokens fields) (fields_printable fields level.names (fields_within d fields good_here)) in
-      let all : ArePrintable (listed (map field_tokens fields) ++ (GREATER ∷ [])) =
-      All-append IsPrintable (listed (map field_tokens fields)) (GREATER ∷ []) parts (one_more GREATER [] refl none_printable) in
+      let all : ArePrintable (with_commas (map field_tokens fields) ++ (GREATER ∷ [])) =
+      All-append IsPrintable (with_commas (map field_tokens fields)) (GREATER ∷ []) parts (one_more GREATER [] refl none_printable) in
       subst (λ z. ArePrintable (type_tokens z)) same
-      (subst ArePrintable (sym (type-Struct fields)) (one_more (Word (codes "struct")) (LESS ∷ (listed (map field_tokens fields) ++ (GREATER ∷ []))) struct_word (one_more LESS (listed (map field_tokens fields) ++ (GREATER ∷ [])) refl all)))
+      (subst ArePrintable (sym (type-Struct fields)) (one_more (Word (codes "struct")) (LESS ∷ (with_commas (map field_tokens fields) ++ (GREATER ∷ []))) struct_word (one_more LESS (with_commas (map field_tokens fields) ++ (GREATER ∷ [])) refl all)))
   level_printable ty (EsiType-F.Array item count) e good =
       let same : V.Array item count ≡ ty = sym (rolls-Array item count) ∙ e in
       let good_here = subst (λ z. IsGoodWithin (d + 1) z) (sym same) good in

@@ -4,24 +4,25 @@ use Rattle.std.proofs.Math.Dec.{ltb}
 use Rattle.std.specs.Prelude.{All}
 use Rattle.std.proofs.lemmas.Bool.{ltb-true}
 use Rattle.std.proofs.lemmas.List.Elements.{All-nil, All-cons, All-head, All-tail}
-use Rattle.esi_lex.specs.Octet.{is_sign}
-use Rattle.esi_lex.specs.Digits.{value, has_leading_zero}
-use Rattle.esi_lex.specs.Tokens.{Lexeme, tokens, word_token, plain_word, type_word, decimal, hexadecimal, bounded, bounded_token}
-use Rattle.esi_lex.specs.Cuts.{IsToken, word, decimal_number, hexadecimal_number, one_sign, unknown, IsCut, ended, goes_on}
-use Rattle.esi_lex.specs.CutLaw.{lexemes_cut}
-use Rattle.esi_lex.specs.Spellings.{IsSpelled, AreSpelled}
-use Rattle.esi_lex.specs.WordTexts.{words_spelled}
-use Rattle.esi_lex.specs.declared.token.Class.{Class}
-use Rattle.esi_lex.specs.declared.token.Class.TheVariants.{Unsigned, Signed, Plain}
-use Rattle.esi_lex.specs.declared.token.Fault.TheVariants.{BadNumber, LongWord}
-use Rattle.esi_lex.specs.declared.token.Token.{Token}
-use Rattle.esi_lex.specs.declared.token.Token.TheVariants.{Word, TypeWord, Number, Sign, Faulty, End}
+use Rattle.design_lex.specs.declared.limits.TheConstants.{WIDEST_TYPE}
+use Rattle.design_lex.specs.Octet.{is_sign}
+use Rattle.design_lex.specs.Digits.{value, has_leading_zero}
+use Rattle.design_lex.specs.Tokens.{Lexeme, tokens, word_token, plain_word, type_word, decimal, hexadecimal, bounded, bounded_token}
+use Rattle.design_lex.specs.Cuts.{IsToken, word, decimal_number, hexadecimal_number, one_sign, unknown, IsCut, ended, goes_on}
+use Rattle.design_lex.specs.CutLaw.{lexemes_cut}
+use Rattle.design_lex.specs.Spellings.{IsSpelled, AreSpelled}
+use Rattle.design_lex.specs.WordTexts.{words_spelled}
+use Rattle.design_lex.specs.declared.token.Class.{Class}
+use Rattle.design_lex.specs.declared.token.Class.TheVariants.{Unsigned, Signed, Plain}
+use Rattle.design_lex.specs.declared.token.LexicalRule.TheVariants.{BadNumber, LongWord}
+use Rattle.design_lex.specs.declared.token.Token.{Token}
+use Rattle.design_lex.specs.declared.token.Token.TheVariants.{Word, TypeWord, Number, Sign, Faulty, End}
 use Rattle.design_printer.specs.CutAgain.{IsPrintable, token_in}
 
 -- No fault, no type word above 1,024 bits, and not the end.
 abbrev pub IsUsable : Token → Type 0
 IsUsable (Word w) = Unit {0}
-IsUsable (TypeWord class width) = width ≤ 1024
+IsUsable (TypeWord class width) = width ≤ WIDEST_TYPE
 IsUsable (Number n) = Unit {0}
 IsUsable (Sign b) = Unit {0}
 IsUsable (Faulty fault) = ⊥

@@ -3,27 +3,27 @@ use Rattle.std.proofs.Common.{◌≡◌, ℕ, Bool, true, false, cond, List, [],
 use Rattle.std.specs.Prelude.{codes}
 use Rattle.std.specs.List.{flat_map}
 use Rattle.std.specs.Fmt.{decimal}
-use Rattle.esi_lex.specs.Spellings.{class_letters}
-use Rattle.esi_lex.specs.declared.token.Class.{Class}
-use Rattle.esi_lex.specs.declared.token.Token.{Token}
-use Rattle.esi_lex.specs.declared.token.Token.TheVariants.{Word, TypeWord, Number}
+use Rattle.design_lex.specs.Spellings.{class_letters}
+use Rattle.design_lex.specs.declared.token.Class.{Class}
+use Rattle.design_lex.specs.declared.token.Token.{Token}
+use Rattle.design_lex.specs.declared.token.Token.TheVariants.{Word, TypeWord, Number}
 use Rattle.channel_types.specs.declared.esi_type.EsiType.{EsiType}
 use Rattle.channel_types.specs.declared.esi_type.EsiType.TheOpen.{EsiType-F, Field-F}
 use Rattle.channel_types.specs.declared.esi_type.EsiType.TheViews.{roll-EsiType, roll-Field}
 use Rattle.channel_types.specs.declared.esi_type.EsiType.TheFolds.{map-EsiType, map-Field, fold-roll-EsiType, fold-roll-Field, ind-EsiType}
 use Rattle.channel_types.specs.declared.esi_type.Field.{Field}
 use Rattle.channel_types.specs.Text.{listed as listed_texts, text_step, field_text_step, text_of, field_text}
-use Rattle.design_tree.specs.Tokens.{listed, type_step, field_step, type_tokens, field_tokens, COLON, COMMA, LESS, GREATER}
+use Rattle.design_tree.specs.Tokens.{with_commas, type_step, field_step, type_tokens, field_tokens, COLON, COMMA, LESS, GREATER}
 use Rattle.design_printer.specs.Canonical.{canonical}
 use Rattle.design_printer.specs.TextFrom.{text_from, canonical_from}
 
 -- the space before a word, where one may stand
 abbrev lead : Bool → List ℕ
-lead is_apart = cond is_apart (32 ∷ []) []
+lead allows_space = cond allows_space (32 ∷ []) []
 
--- Wherever these tokens stand, whatever stands behind them, their text is this one, and a space may follow it.
+-- Wherever these tokens stand, whatever stands after them, their text is this one, and a space may follow it.
 abbrev IsTextOf : List Token → List ℕ → Type 0
-IsTextOf ts z = (is_apart : Bool) (behind : List Token) → text_from is_apart (ts ++ behind) ≡ lead is_apart ++ (z ++ text_from true behind)
+IsTextOf ts z = (allows_space : Bool) (behind : List Token) → text_from allows_space (ts ++ behind) ≡ lead allows_space ++ (z ++ text_from true behind)
 
 -- a word and a type word
 word_text : (w : List ℕ) → IsTextOf (Word w ∷ []) w
@@ -39,10 +39,10 @@ type_word_text class width false behind = refl
 -- a name, a colon and more
 named_text : (name : List ℕ) (ts : List Token) (z : List ℕ) → IsTextOf ts z → IsTextOf (Word name ∷ COLON ∷ ts) (name ++ (codes ": " ++ z))
 unfolding text_from
-named_text name ts z h is_apart behind =
-    word_text name is_apart (COLON ∷ (ts ++ behind))
-    ∙ ap (λ (q : List ℕ). lead is_apart ++ (name ++ (58 ∷ q))) (h true behind)
-    ∙ ap (λ (q : List ℕ). lead is_apart ++ q) (sym (append_assoc name (58 ∷ 32 ∷ z) (text_from true behind)))
+named_text name ts z h allows_space behind =
+    word_text name allows_space (COLON ∷ (ts ++ behind))
+    ∙ ap (λ (q : List ℕ). lead allows_space ++ (name ++ (58 ∷ q))) (h true behind)
+    ∙ ap (λ (q : List ℕ). lead allows_space ++ q) (sym (append_assoc name (58 ∷ 32 ∷ z) (text_from true behind)))
 
 abbrev IsTypePrinted : EsiType → Type 0
 IsTypePrinted ty = IsTextOf (type_tokens ty) (text_of ty)
@@ -64,7 +64,7 @@ tokens_in held = map field_tokens (map (λ (e : PrintedField). e.0) held)
 abbrev texts_in : List PrintedField → List (List ℕ)
 texts_in held = map field_text (map (λ (e : PrintedField). e.0) held)
 
--- fields, each behind a comma
+-- fields, each after a comma
 others_text : (held : List PrintedField) (behind : List Token)
     → text_from true (flat_map (λ y. COMMA ∷ y) (tokens_in held) ++ behind) ≡ flat_map (λ y. codes ", " ++ y) (texts_in held) ++ text_from true behind
 unfolding text_from
@@ -79,7 +79,7 @@ others_text (e ∷ es) behind =
 
 -- the fields of a struct, up to its end
 fields_text : (held : List PrintedField) (behind : List Token)
-    → text_from false (listed (tokens_in held) ++ (GREATER ∷ behind)) ≡ listed_texts (texts_in held) ++ (62 ∷ text_from true behind)
+    → text_from false (with_commas (tokens_in held) ++ (GREATER ∷ behind)) ≡ listed_texts (texts_in held) ++ (62 ∷ text_from true behind)
 unfolding text_from
 fields_text [] behind = refl
 fields_text (e ∷ es) behind =
@@ -90,29 +90,29 @@ fields_text (e ∷ es) behind =
     ∙ ap (λ (q : List ℕ). field_text e.0 ++ q) (others_text es (GREATER ∷ behind))
     ∙ sym (append_assoc (field_text e.0) texts (62 ∷ text_from true behind))
 
-struct_text : (held : List PrintedField) → IsTextOf (Word (codes "struct") ∷ LESS ∷ (listed (tokens_in held) ++ GREATER ∷ [])) (codes "struct<" ++ (listed_texts (texts_in held) ++ codes ">"))
+struct_text : (held : List PrintedField) → IsTextOf (Word (codes "struct") ∷ LESS ∷ (with_commas (tokens_in held) ++ GREATER ∷ [])) (codes "struct<" ++ (listed_texts (texts_in held) ++ codes ">"))
 unfolding text_from
-struct_text held is_apart behind =
-    word_text (codes "struct") is_apart (LESS ∷ ((listed (tokens_in held) ++ GREATER ∷ []) ++ behind))
-    ∙ ap (λ (q : List Token). lead is_apart ++ (codes "struct<" ++ text_from false q)) (append_assoc (listed (tokens_in held)) (GREATER ∷ []) behind)
-    ∙ ap (λ (q : List ℕ). lead is_apart ++ (codes "struct<" ++ q)) (fields_text held behind)
-    ∙ ap (λ (q : List ℕ). lead is_apart ++ (codes "struct<" ++ q)) (sym (append_assoc (listed_texts (texts_in held)) (62 ∷ []) (text_from true behind)))
+struct_text held allows_space behind =
+    word_text (codes "struct") allows_space (LESS ∷ ((with_commas (tokens_in held) ++ GREATER ∷ []) ++ behind))
+    ∙ ap (λ (q : List Token). lead allows_space ++ (codes "struct<" ++ text_from false q)) (append_assoc (with_commas (tokens_in held)) (GREATER ∷ []) behind)
+    ∙ ap (λ (q : List ℕ). lead allows_space ++ (codes "struct<" ++ q)) (fields_text held behind)
+    ∙ ap (λ (q : List ℕ). lead allows_space ++ (codes "struct<" ++ q)) (sym (append_assoc (listed_texts (texts_in held)) (62 ∷ []) (text_from true behind)))
 
 array_text : (ts : List Token) (z : List ℕ) (count : ℕ) → IsTextOf ts z
     → IsTextOf (Word (codes "array") ∷ LESS ∷ (ts ++ COMMA ∷ Number count ∷ GREATER ∷ [])) (codes "array<" ++ (z ++ (codes ", " ++ (decimal count ++ codes ">"))))
 unfolding text_from
-array_text ts z count h is_apart behind =
+array_text ts z count h allows_space behind =
     let rest : List ℕ = text_from true behind in
-    word_text (codes "array") is_apart (LESS ∷ ((ts ++ COMMA ∷ Number count ∷ GREATER ∷ []) ++ behind))
-    ∙ ap (λ (q : List Token). lead is_apart ++ (codes "array<" ++ text_from false q)) (append_assoc ts (COMMA ∷ Number count ∷ GREATER ∷ []) behind)
-    ∙ ap (λ (q : List ℕ). lead is_apart ++ (codes "array<" ++ q)) (h false (COMMA ∷ Number count ∷ GREATER ∷ behind))
-    ∙ ap (λ (q : List ℕ). lead is_apart ++ (codes "array<" ++ (z ++ (44 ∷ 32 ∷ q)))) (sym (append_assoc (decimal count) (62 ∷ []) rest))
-    ∙ ap (λ (q : List ℕ). lead is_apart ++ (codes "array<" ++ q)) (sym (append_assoc z (44 ∷ 32 ∷ (decimal count ++ 62 ∷ [])) rest))
+    word_text (codes "array") allows_space (LESS ∷ ((ts ++ COMMA ∷ Number count ∷ GREATER ∷ []) ++ behind))
+    ∙ ap (λ (q : List Token). lead allows_space ++ (codes "array<" ++ text_from false q)) (append_assoc ts (COMMA ∷ Number count ∷ GREATER ∷ []) behind)
+    ∙ ap (λ (q : List ℕ). lead allows_space ++ (codes "array<" ++ q)) (h false (COMMA ∷ Number count ∷ GREATER ∷ behind))
+    ∙ ap (λ (q : List ℕ). lead allows_space ++ (codes "array<" ++ (z ++ (44 ∷ 32 ∷ q)))) (sym (append_assoc (decimal count) (62 ∷ []) rest))
+    ∙ ap (λ (q : List ℕ). lead allows_space ++ (codes "array<" ++ q)) (sym (append_assoc z (44 ∷ 32 ∷ (decimal count ++ 62 ∷ [])) rest))
 
--- tokens and texts may be told otherwise
-told : (ts us : List Token) (z w : List ℕ) → ts ≡ us → z ≡ w → IsTextOf us w → IsTextOf ts z
-told ts us z w e f h is_apart behind =
-    ap (λ (q : List Token). text_from is_apart (q ++ behind)) e ∙ h is_apart behind ∙ ap (λ (q : List ℕ). lead is_apart ++ (q ++ text_from true behind)) (sym f)
+-- the tokens and the text may be replaced by equal ones
+text_as : (ts us : List Token) (z w : List ℕ) → ts ≡ us → z ≡ w → IsTextOf us w → IsTextOf ts z
+text_as ts us z w e f h allows_space behind =
+    ap (λ (q : List Token). text_from allows_space (q ++ behind)) e ∙ h allows_space behind ∙ ap (λ (q : List ℕ). lead allows_space ++ (q ++ text_from true behind)) (sym f)
 
 -- a level, and a field, without the proofs
 abbrev bare : EsiType-F PrintedType PrintedField → EsiType-F EsiType Field
@@ -132,12 +132,12 @@ level_text (EsiType-F.Array item count) = array_text (type_tokens item.0) (text_
 type_level : (x : EsiType-F EsiType Field) (y : EsiType-F PrintedType PrintedField) → bare y ≡ x → IsTypePrinted (roll-EsiType x)
 type_level x y is =
     subst (λ z. IsTypePrinted (roll-EsiType z)) is
-    (told _ _ _ _ (fold-roll-EsiType (List Token) (List Token) type_step field_step (bare y)) (fold-roll-EsiType (List ℕ) (List ℕ) text_step field_text_step (bare y)) (level_text y))
+    (text_as _ _ _ _ (fold-roll-EsiType (List Token) (List Token) type_step field_step (bare y)) (fold-roll-EsiType (List ℕ) (List ℕ) text_step field_text_step (bare y)) (level_text y))
 
 field_level : (x : Field-F EsiType Field) (y : Field-F PrintedType PrintedField) → bare_field y ≡ x → IsFieldPrinted (roll-Field x)
 field_level x y is =
     subst (λ z. IsFieldPrinted (roll-Field z)) is
-    (told _ _ _ _ (fold-roll-Field (List Token) (List Token) type_step field_step (bare_field y)) (fold-roll-Field (List ℕ) (List ℕ) text_step field_text_step (bare_field y))
+    (text_as _ _ _ _ (fold-roll-Field (List Token) (List Token) type_step field_step (bare_field y)) (fold-roll-Field (List ℕ) (List ℕ) text_step field_text_step (bare_field y))
     (named_text y.name (type_tokens y.ty.0) (text_of y.ty.0) y.ty.1))
 
 every_type : (ty : EsiType) → IsTypePrinted ty

@@ -1,35 +1,19 @@
-//! Expressions.
+//! The printers of expressions.
 ghost use Rattle.std.specs.Prelude.{◌≡◌, ◌∷◌, [], map, OnOk};
 ghost use Rattle.std.specs.List.{flat_map};
-ghost use Rattle.esi_lex.specs.declared.token.Token.TheVariants.{Word as word_token};
-ghost use Rattle.design_tree.specs.Tokens.{suffix_tokens, expression_tokens, operator_word, COMMA, OPEN};
-ghost use Rattle.design_printer.specs.Added.{added};
+ghost use Rattle.design_lex.specs.declared.token.Token.TheVariants.{Word as word_token};
+ghost use Rattle.design_tree.specs.Tokens.{suffix_tokens, expression_tokens, COMMA, OPEN};
+ghost use Rattle.design_printer.specs.Printers.{with_tokens};
 
 use crate::leaves::{print_name, print_number};
 use crate::printer::Printer;
 use crate::types::print_type;
-use design_tree::{Binary, Expression, Suffix};
+use design_tree::{Expression, Suffix};
 use esi_base::NoMemory;
 
-/// The word of an operator of two operands.
-fn operator_word(operator: Binary) -> &'static [u8]
-    ensures { result.now ≡ operator_word operator }
-{
-    match operator {
-        Binary::And => b"and",
-        Binary::Or => b"or",
-        Binary::Xor => b"xor",
-        Binary::Add => b"add",
-        Binary::Sub => b"sub",
-        Binary::Eq => b"eq",
-        Binary::Lt => b"lt",
-        Binary::Cat => b"cat",
-    }
-}
-
-/// An operator and what opens its operands.
+/// Adds the word of an operator and the parenthesis that opens its operands.
 fn open(printer: &mut Printer, operator: &[u8]) -> Result<(), NoMemory>
-    ensures { OnOk result (printer.new ≡ added (word_token operator.now ∷ OPEN ∷ []) printer.old) }
+    ensures { OnOk result (printer.new ≡ with_tokens (word_token operator.now ∷ OPEN ∷ []) printer.old) }
 {
     printer.word(operator)?;
     printer.sign(b'(')
@@ -37,7 +21,7 @@ fn open(printer: &mut Printer, operator: &[u8]) -> Result<(), NoMemory>
 
 #[tactic(auto, using(crate::proofs::Steps::steps))]
 fn print_suffix(printer: &mut Printer, suffix: &Suffix) -> Result<(), NoMemory>
-    ensures { OnOk result (printer.new ≡ added (suffix_tokens suffix.now) printer.old) }
+    ensures { OnOk result (printer.new ≡ with_tokens (suffix_tokens suffix.now) printer.old) }
 {
     match suffix {
         Suffix::Field(name) => {
@@ -55,7 +39,7 @@ fn print_suffix(printer: &mut Printer, suffix: &Suffix) -> Result<(), NoMemory>
 
 #[tactic(auto, using(crate::proofs::Steps::steps))]
 fn print_suffixes(printer: &mut Printer, suffixes: &[Suffix]) -> Result<(), NoMemory>
-    ensures { OnOk result (printer.new ≡ added (flat_map suffix_tokens suffixes.now) printer.old) }
+    ensures { OnOk result (printer.new ≡ with_tokens (flat_map suffix_tokens suffixes.now) printer.old) }
 {
     for suffix in suffixes {
         print_suffix(printer, suffix)?;
@@ -63,11 +47,11 @@ fn print_suffixes(printer: &mut Printer, suffixes: &[Suffix]) -> Result<(), NoMe
     Ok(())
 }
 
-/// Expressions, each behind a comma.
+/// Adds expressions, each after a comma.
 #[cycle(an_expression)]
 #[tactic(auto, using(crate::proofs::Steps::steps))]
 fn print_others(printer: &mut Printer, expressions: &[Expression]) -> Result<(), NoMemory>
-    ensures { OnOk result (printer.new ≡ added (flat_map (λ y. COMMA ∷ y) (map expression_tokens expressions.now)) printer.old) }
+    ensures { OnOk result (printer.new ≡ with_tokens (flat_map (λ y. COMMA ∷ y) (map expression_tokens expressions.now)) printer.old) }
 {
     for expression in expressions {
         printer.sign(b',')?;
@@ -81,7 +65,7 @@ fn print_others(printer: &mut Printer, expressions: &[Expression]) -> Result<(),
 #[cycle(an_expression)]
 #[tactic(auto, using(crate::proofs::Steps::expression_steps))]
 pub fn print_expression(printer: &mut Printer, expression: &Expression) -> Result<(), NoMemory>
-    ensures { OnOk result (printer.new ≡ added (expression_tokens expression.now) printer.old) }
+    ensures { OnOk result (printer.new ≡ with_tokens (expression_tokens expression.now) printer.old) }
 {
     match expression {
         Expression::Variable(name) => print_name(printer, name)?,
@@ -136,7 +120,7 @@ pub fn print_expression(printer: &mut Printer, expression: &Expression) -> Resul
             right,
             ..
         } => {
-            open(printer, operator_word(*operator))?;
+            open(printer, operator.word())?;
             print_expression(printer, left.get())?;
             printer.sign(b',')?;
             print_expression(printer, right.get())?;
@@ -144,16 +128,16 @@ pub fn print_expression(printer: &mut Printer, expression: &Expression) -> Resul
         }
         Expression::Mux {
             condition,
-            one,
-            zero,
+            when_one,
+            when_zero,
             ..
         } => {
             open(printer, b"mux")?;
             print_expression(printer, condition.get())?;
             printer.sign(b',')?;
-            print_expression(printer, one.get())?;
+            print_expression(printer, when_one.get())?;
             printer.sign(b',')?;
-            print_expression(printer, zero.get())?;
+            print_expression(printer, when_zero.get())?;
             printer.sign(b')')?;
         }
     }

@@ -1,7 +1,7 @@
-//! The statements of a body, and the operations among them.
+//! The printers of statements and of operations.
 ghost use Rattle.std.specs.Prelude.{◌≡◌, map, OnOk};
-ghost use Rattle.design_tree.specs.Tokens.{listed, reference_tokens, operation_tokens, binding_tokens, single_name, statement_tokens};
-ghost use Rattle.design_printer.specs.Added.{added};
+ghost use Rattle.design_tree.specs.Tokens.{with_commas, reference_tokens, operation_tokens, binding_tokens, single_name, statement_tokens};
+ghost use Rattle.design_printer.specs.Printers.{with_tokens};
 
 use crate::expressions::print_expression;
 use crate::leaves::{print_comma, print_id, print_name, print_number, print_reference};
@@ -13,7 +13,7 @@ use esi_base::NoMemory;
 /// Adds an operation: its word, its numbers, its sources and, where it has one, its body.
 #[tactic(auto, using(crate::proofs::Steps::steps))]
 pub fn print_operation(printer: &mut Printer, operation: &Operation) -> Result<(), NoMemory>
-    ensures { OnOk result (printer.new ≡ added (operation_tokens operation.now) printer.old) }
+    ensures { OnOk result (printer.new ≡ with_tokens (operation_tokens operation.now) printer.old) }
 {
     match operation {
         Operation::Stage(source) => {
@@ -87,7 +87,7 @@ pub fn print_operation(printer: &mut Printer, operation: &Operation) -> Result<(
 
 #[tactic(auto, using(crate::proofs::Steps::steps))]
 fn print_binding(printer: &mut Printer, binding: &Binding) -> Result<(), NoMemory>
-    ensures { OnOk result (printer.new ≡ added (binding_tokens binding.now) printer.old) }
+    ensures { OnOk result (printer.new ≡ with_tokens (binding_tokens binding.now) printer.old) }
 {
     print_name(printer, &binding.port)?;
     printer.sign(b':')?;
@@ -96,7 +96,7 @@ fn print_binding(printer: &mut Printer, binding: &Binding) -> Result<(), NoMemor
 
 #[tactic(auto, using(crate::proofs::Steps::steps))]
 fn print_bindings(printer: &mut Printer, bindings: &[Binding]) -> Result<(), NoMemory>
-    ensures { OnOk result (printer.new ≡ added (listed (map binding_tokens bindings.now)) printer.old) }
+    ensures { OnOk result (printer.new ≡ with_tokens (with_commas (map binding_tokens bindings.now)) printer.old) }
 {
     let mut is_first = true;
     for binding in bindings {
@@ -109,7 +109,7 @@ fn print_bindings(printer: &mut Printer, bindings: &[Binding]) -> Result<(), NoM
 
 #[tactic(auto, using(crate::proofs::Steps::steps))]
 fn print_names(printer: &mut Printer, names: &[Name]) -> Result<(), NoMemory>
-    ensures { OnOk result (printer.new ≡ added (listed (map single_name names.now)) printer.old) }
+    ensures { OnOk result (printer.new ≡ with_tokens (with_commas (map single_name names.now)) printer.old) }
 {
     let mut is_first = true;
     for name in names {
@@ -120,10 +120,10 @@ fn print_names(printer: &mut Printer, names: &[Name]) -> Result<(), NoMemory>
     Ok(())
 }
 
-/// Adds a statement, with the `;` behind it.
+/// Adds a statement, with the `;` at its end.
 #[tactic(auto, using(crate::proofs::Steps::steps))]
 pub fn print_statement(printer: &mut Printer, statement: &Statement) -> Result<(), NoMemory>
-    ensures { OnOk result (printer.new ≡ added (statement_tokens statement.now) printer.old) }
+    ensures { OnOk result (printer.new ≡ with_tokens (statement_tokens statement.now) printer.old) }
 {
     match statement {
         Statement::Request {

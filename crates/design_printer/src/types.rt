@@ -1,7 +1,7 @@
-//! Types.
+//! The printers of types.
 ghost use Rattle.std.specs.Prelude.{◌≡◌, OnOk};
 ghost use Rattle.design_tree.specs.Tokens.{type_tokens, field_tokens};
-ghost use Rattle.design_printer.specs.Added.{added};
+ghost use Rattle.design_printer.specs.Printers.{with_tokens};
 
 use crate::leaves::print_comma;
 use crate::printer::Printer;
@@ -12,7 +12,7 @@ use esi_base::NoMemory;
 #[cycle(a_type)]
 #[tactic(auto, using(crate::proofs::Steps::steps))]
 fn print_field(printer: &mut Printer, field: &Field) -> Result<(), NoMemory>
-    ensures { OnOk result (printer.new ≡ added (field_tokens field.now) printer.old) }
+    ensures { OnOk result (printer.new ≡ with_tokens (field_tokens field.now) printer.old) }
 {
     printer.word(field.name.as_slice())?;
     printer.sign(b':')?;
@@ -23,7 +23,7 @@ fn print_field(printer: &mut Printer, field: &Field) -> Result<(), NoMemory>
 #[cycle(a_type)]
 #[tactic(auto, using(crate::proofs::Steps::steps))]
 pub fn print_type(printer: &mut Printer, ty: &EsiType) -> Result<(), NoMemory>
-    ensures { OnOk result (printer.new ≡ added (type_tokens ty.now) printer.old) }
+    ensures { OnOk result (printer.new ≡ with_tokens (type_tokens ty.now) printer.old) }
 {
     match ty {
         EsiType::Bits { class, width } => printer.type_word(*class, *width)?,

@@ -1,20 +1,18 @@
--- The tokens with which a design is written, part by part, after the grammar of the design text. No offset of the tree
--- is among what they say.
+-- The tokens with which a design is written, part by part, by the grammar of the design text. They do not depend on the
+-- tree's offsets.
 use Rattle.std.specs.Prelude.{ℕ, Option, Some, None, List, [], ◌∷◌, ◌++◌, map, codes}
 use Rattle.std.specs.List.{flat_map}
-use Rattle.esi_lex.specs.declared.token.Token.{Token}
-use Rattle.esi_lex.specs.declared.token.Token.TheVariants.{Word, TypeWord, Number as NumberToken, Sign}
+use Rattle.design_lex.specs.declared.token.Token.{Token}
+use Rattle.design_lex.specs.declared.token.Token.TheVariants.{Word, TypeWord, Number as NumberToken, Sign}
 use Rattle.channel_types.specs.declared.esi_type.EsiType.{EsiType}
 use Rattle.channel_types.specs.declared.esi_type.EsiType.TheOpen.{EsiType-F, Field-F}
 use Rattle.channel_types.specs.declared.esi_type.EsiType.TheFolds.{fold-EsiType, fold-Field}
 use Rattle.channel_types.specs.declared.esi_type.Field.{Field as TypeField}
-use Rattle.design_tree.specs.declared.names.Name.{Name}
-use Rattle.design_tree.specs.declared.names.Number.{Number}
-use Rattle.design_tree.specs.declared.names.ApplicationId.{ApplicationId}
-use Rattle.design_tree.specs.declared.names.Reference.{Reference}
-use Rattle.design_tree.specs.declared.names.Reference.TheVariants as R
-use Rattle.design_tree.specs.declared.expression.Binary.{Binary}
-use Rattle.design_tree.specs.declared.expression.Binary.TheVariants as B
+use Rattle.design_tree.specs.declared.leaves.Name.{Name}
+use Rattle.design_tree.specs.declared.leaves.Number.{Number}
+use Rattle.design_tree.specs.declared.leaves.ApplicationId.{ApplicationId}
+use Rattle.design_tree.specs.declared.leaves.Reference.{Reference}
+use Rattle.design_tree.specs.declared.leaves.Reference.TheVariants as R
 use Rattle.design_tree.specs.declared.expression.Suffix.{Suffix}
 use Rattle.design_tree.specs.declared.expression.Suffix.TheVariants as X
 use Rattle.design_tree.specs.declared.expression.Expression.{Expression}
@@ -25,24 +23,21 @@ use Rattle.design_tree.specs.declared.statements.Operation.{Operation}
 use Rattle.design_tree.specs.declared.statements.Operation.TheVariants as O
 use Rattle.design_tree.specs.declared.statements.Statement.{Statement}
 use Rattle.design_tree.specs.declared.statements.Statement.TheVariants as S
-use Rattle.design_tree.specs.declared.items.Direction.{Direction}
-use Rattle.design_tree.specs.declared.items.Direction.TheVariants.{ToHardware, FromHardware}
-use Rattle.design_tree.specs.declared.items.Member.{Member}
-use Rattle.design_tree.specs.declared.items.Bundle.{Bundle}
-use Rattle.design_tree.specs.declared.items.ServicePort.{ServicePort}
-use Rattle.design_tree.specs.declared.items.Service.{Service}
-use Rattle.design_tree.specs.declared.items.PortDirection.{PortDirection}
-use Rattle.design_tree.specs.declared.items.PortDirection.TheVariants.{In, Out}
-use Rattle.design_tree.specs.declared.items.ModulePort.{ModulePort}
-use Rattle.design_tree.specs.declared.items.Module.{Module}
-use Rattle.design_tree.specs.declared.items.Item.{Item}
-use Rattle.design_tree.specs.declared.items.Item.TheVariants as I
+use Rattle.design_tree.specs.declared.declarations.Member.{Member}
+use Rattle.design_tree.specs.declared.declarations.Bundle.{Bundle}
+use Rattle.design_tree.specs.declared.declarations.ServicePort.{ServicePort}
+use Rattle.design_tree.specs.declared.declarations.Service.{Service}
+use Rattle.design_tree.specs.declared.declarations.ModulePort.{ModulePort}
+use Rattle.design_tree.specs.declared.declarations.Module.{Module}
+use Rattle.design_tree.specs.declared.declarations.Declaration.{Declaration}
+use Rattle.design_tree.specs.declared.declarations.Declaration.TheVariants as I
 use Rattle.design_tree.specs.declared.design.Pipe.{Pipe}
-use Rattle.design_tree.specs.declared.design.Body.{Body}
-use Rattle.design_tree.specs.declared.design.Body.TheVariants as P
-use Rattle.design_tree.specs.declared.design.Top.{Top}
-use Rattle.design_tree.specs.declared.design.Form.{Form}
-use Rattle.design_tree.specs.declared.design.Form.TheVariants as F
+use Rattle.design_tree.specs.declared.top.TopItem.{TopItem}
+use Rattle.design_tree.specs.declared.top.TopItem.TheVariants as P
+use Rattle.design_tree.specs.declared.top.Top.{Top}
+use Rattle.design_tree.specs.declared.design.DesignTree.{DesignTree}
+use Rattle.design_tree.specs.declared.design.DesignTree.TheVariants as F
+use Rattle.design_tree.specs.Words.{operator_word, direction_word, port_direction_word}
 
 -- ---- signs
 
@@ -85,12 +80,12 @@ OPEN_BRACKET = Sign 91
 abbrev pub CLOSE_BRACKET : Token
 CLOSE_BRACKET = Sign 93
 
--- ---- parts of every line
+-- ---- lists, names and numbers
 
--- parts with commas between them
-abbrev pub listed : List (List Token) → List Token
-listed [] = []
-listed (x ∷ xs) = x ++ flat_map (λ y. COMMA ∷ y) xs
+-- lists of tokens with commas between them
+abbrev pub with_commas : List (List Token) → List Token
+with_commas [] = []
+with_commas (x ∷ xs) = x ++ flat_map (λ y. COMMA ∷ y) xs
 
 abbrev pub name_token : Name → Token
 name_token n = Word n.octets
@@ -103,7 +98,7 @@ number_token n = NumberToken n.value
 abbrev pub type_step : EsiType-F (List Token) (List Token) → List Token
 type_step (EsiType-F.Bits class width) = TypeWord class width ∷ []
 type_step EsiType-F.Void = Word (codes "void") ∷ []
-type_step (EsiType-F.Struct fields) = Word (codes "struct") ∷ LESS ∷ (listed fields ++ GREATER ∷ [])
+type_step (EsiType-F.Struct fields) = Word (codes "struct") ∷ LESS ∷ (with_commas fields ++ GREATER ∷ [])
 type_step (EsiType-F.Array item count) = Word (codes "array") ∷ LESS ∷ (item ++ COMMA ∷ NumberToken count ∷ GREATER ∷ [])
 
 abbrev pub field_step : Field-F (List Token) (List Token) → List Token
@@ -117,19 +112,9 @@ field_tokens = fold-Field (List Token) (List Token) type_step field_step
 
 -- ---- expr = base { "." name | "[" number "]" }
 
-abbrev pub operator_word : Binary → List ℕ
-operator_word B.And = codes "and"
-operator_word B.Or = codes "or"
-operator_word B.Xor = codes "xor"
-operator_word B.Add = codes "add"
-operator_word B.Sub = codes "sub"
-operator_word B.Eq = codes "eq"
-operator_word B.Lt = codes "lt"
-operator_word B.Cat = codes "cat"
-
 -- an operator's word, and its operands in parentheses with commas between them
-abbrev pub applied : List ℕ → List (List Token) → List Token
-applied operator operands = Word operator ∷ OPEN ∷ (listed operands ++ CLOSE ∷ [])
+abbrev pub application : List ℕ → List (List Token) → List Token
+application operator operands = Word operator ∷ OPEN ∷ (with_commas operands ++ CLOSE ∷ [])
 
 abbrev pub suffix_tokens : Suffix → List Token
 suffix_tokens (X.Field name) = DOT ∷ name_token name ∷ []
@@ -138,14 +123,14 @@ suffix_tokens (X.Element index) = OPEN_BRACKET ∷ number_token index ∷ CLOSE_
 abbrev pub expression_step : Expression-F (List Token) → List Token
 expression_step (Expression-F.Variable name) = name_token name ∷ []
 expression_step (Expression-F.Part of suffixes) = of ++ flat_map suffix_tokens suffixes
-expression_step (Expression-F.Literal at ty value) = applied (codes "lit") (type_tokens ty ∷ (number_token value ∷ []) ∷ [])
-expression_step (Expression-F.Make at ty parts) = applied (codes "make") (type_tokens ty ∷ parts)
-expression_step (Expression-F.Cast at ty of) = applied (codes "cast") (type_tokens ty ∷ of ∷ [])
-expression_step (Expression-F.Zext at width of) = applied (codes "zext") ((number_token width ∷ []) ∷ of ∷ [])
-expression_step (Expression-F.Slice at high low of) = applied (codes "slice") ((number_token high ∷ []) ∷ (number_token low ∷ []) ∷ of ∷ [])
-expression_step (Expression-F.Not at of) = applied (codes "not") (of ∷ [])
-expression_step (Expression-F.Binary at operator left right) = applied (operator_word operator) (left ∷ right ∷ [])
-expression_step (Expression-F.Mux at condition one zero) = applied (codes "mux") (condition ∷ one ∷ zero ∷ [])
+expression_step (Expression-F.Literal at ty value) = application (codes "lit") (type_tokens ty ∷ (number_token value ∷ []) ∷ [])
+expression_step (Expression-F.Make at ty parts) = application (codes "make") (type_tokens ty ∷ parts)
+expression_step (Expression-F.Cast at ty of) = application (codes "cast") (type_tokens ty ∷ of ∷ [])
+expression_step (Expression-F.Zext at width of) = application (codes "zext") ((number_token width ∷ []) ∷ of ∷ [])
+expression_step (Expression-F.Slice at high low of) = application (codes "slice") ((number_token high ∷ []) ∷ (number_token low ∷ []) ∷ of ∷ [])
+expression_step (Expression-F.Not at of) = application (codes "not") (of ∷ [])
+expression_step (Expression-F.Binary at operator left right) = application (operator_word operator) (left ∷ right ∷ [])
+expression_step (Expression-F.Mux at condition when_one when_zero) = application (codes "mux") (condition ∷ when_one ∷ when_zero ∷ [])
 
 abbrev pub expression_tokens : Expression → List Token
 expression_tokens = fold-Expression (List Token) expression_step
@@ -188,15 +173,11 @@ single_name n = name_token n ∷ []
 abbrev pub statement_tokens : Statement → List Token
 statement_tokens (S.Request at service port id) = Word (codes "request") ∷ name_token service ∷ DOT ∷ name_token port ∷ Word (codes "as") ∷ (id_tokens id ++ SEMICOLON ∷ [])
 statement_tokens (S.Instance at id of bindings) =
-    Word (codes "inst") ∷ (id_tokens id ++ EQUALS ∷ name_token of ∷ OPEN ∷ (listed (map binding_tokens bindings) ++ CLOSE ∷ SEMICOLON ∷ []))
-statement_tokens (S.Channels at names operation) = Word (codes "chan") ∷ (listed (map single_name names) ++ EQUALS ∷ (operation_tokens operation ++ SEMICOLON ∷ []))
+    Word (codes "inst") ∷ (id_tokens id ++ EQUALS ∷ name_token of ∷ OPEN ∷ (with_commas (map binding_tokens bindings) ++ CLOSE ∷ SEMICOLON ∷ []))
+statement_tokens (S.Channels at names operation) = Word (codes "chan") ∷ (with_commas (map single_name names) ++ EQUALS ∷ (operation_tokens operation ++ SEMICOLON ∷ []))
 statement_tokens (S.Drive at sink source) = Word (codes "drive") ∷ (reference_tokens sink ++ EQUALS ∷ (reference_tokens source ++ SEMICOLON ∷ []))
 
--- ---- bundle, service and module
-
-abbrev pub direction_word : Direction → List ℕ
-direction_word ToHardware = codes "to_hw"
-direction_word FromHardware = codes "from_hw"
+-- ---- bundles, services and modules
 
 abbrev pub member_tokens : Member → List Token
 member_tokens m = name_token m.name ∷ COLON ∷ Word (direction_word m.direction) ∷ (type_tokens m.ty ++ SEMICOLON ∷ [])
@@ -210,38 +191,34 @@ service_port_tokens p = Word (codes "port") ∷ name_token p.name ∷ COLON ∷ 
 abbrev pub service_tokens : Service → List Token
 service_tokens s = Word (codes "service") ∷ name_token s.name ∷ OPEN_BRACE ∷ (flat_map service_port_tokens s.ports ++ CLOSE_BRACE ∷ [])
 
-abbrev pub port_direction_word : PortDirection → List ℕ
-port_direction_word In = codes "in"
-port_direction_word Out = codes "out"
-
 abbrev pub module_port_tokens : ModulePort → List Token
 module_port_tokens p = Word (port_direction_word p.direction) ∷ name_token p.name ∷ COLON ∷ type_tokens p.ty
 
 abbrev pub module_tokens : Module → List Token
 module_tokens m =
-    Word (codes "module") ∷ name_token m.name ∷ OPEN ∷ (listed (map module_port_tokens m.ports) ++ CLOSE ∷ OPEN_BRACE ∷ (flat_map statement_tokens m.body ++ CLOSE_BRACE ∷ []))
+    Word (codes "module") ∷ name_token m.name ∷ OPEN ∷ (with_commas (map module_port_tokens m.ports) ++ CLOSE ∷ OPEN_BRACE ∷ (flat_map statement_tokens m.body ++ CLOSE_BRACE ∷ []))
 
-abbrev pub item_tokens : Item → List Token
-item_tokens (I.Bundle b) = bundle_tokens b
-item_tokens (I.Service s) = service_tokens s
-item_tokens (I.Module m) = module_tokens m
+abbrev pub declaration_tokens : Declaration → List Token
+declaration_tokens (I.Bundle b) = bundle_tokens b
+declaration_tokens (I.Service s) = service_tokens s
+declaration_tokens (I.Module m) = module_tokens m
 
 -- ---- top and design
 
-abbrev pub body_tokens : Body → List Token
-body_tokens (P.Statement statement) = statement_tokens statement
-body_tokens (P.Implement service) = Word (codes "implement") ∷ name_token service ∷ SEMICOLON ∷ []
+abbrev pub top_item_tokens : TopItem → List Token
+top_item_tokens (P.Statement statement) = statement_tokens statement
+top_item_tokens (P.Implement service) = Word (codes "implement") ∷ name_token service ∷ SEMICOLON ∷ []
 
 abbrev pub top_tokens : Top → List Token
-top_tokens t = Word (codes "top") ∷ name_token t.name ∷ OPEN_BRACE ∷ (flat_map body_tokens t.body ++ CLOSE_BRACE ∷ [])
+top_tokens t = Word (codes "top") ∷ name_token t.name ∷ OPEN_BRACE ∷ (flat_map top_item_tokens t.body ++ CLOSE_BRACE ∷ [])
 
 abbrev pub pipe_tokens : Pipe → List Token
 pipe_tokens p = Word (codes "pipe") ∷ (type_tokens p.ty ++ Word (codes "stages") ∷ number_token p.stages ∷ SEMICOLON ∷ [])
 
-abbrev pub form_tokens : Form → List Token
-form_tokens (F.Pipe pipe) = pipe_tokens pipe
-form_tokens (F.Parts items top) = flat_map item_tokens items ++ top_tokens top
+abbrev pub tokens_after_version : DesignTree → List Token
+tokens_after_version (F.Pipe pipe) = pipe_tokens pipe
+tokens_after_version (F.Modules declarations top) = flat_map declaration_tokens declarations ++ top_tokens top
 
--- The tokens of a whole design text: its version, and what it has behind it.
-abbrev pub tokens_of : Form → List Token
-tokens_of form = Word (codes "esi") ∷ NumberToken 1 ∷ SEMICOLON ∷ form_tokens form
+-- The tokens of a whole design text: its version, and those after it.
+abbrev pub tokens_of : DesignTree → List Token
+tokens_of tree = Word (codes "esi") ∷ NumberToken 1 ∷ SEMICOLON ∷ tokens_after_version tree

@@ -1,46 +1,28 @@
-//! The whole of a design: a pipe, or items and a top.
-use crate::items::Item;
-use crate::names::{Name, Number};
-use crate::statements::Statement;
+//! The tree of a whole design: a pipe, or declarations and a top.
+use crate::declarations::Declaration;
+use crate::leaves::Number;
+use crate::top::Top;
 use channel_types::EsiType;
 use esi_base::List;
 
-/// A pipe of stages, each of which holds values of one type.
+/// A pipe of stages for values of one type.
 #[derive(Debug, Drop)]
 pub struct Pipe {
-    /// The type of what goes through it.
+    /// The type of the values that go through it.
     pub ty: EsiType,
-    /// How many stages it has, as the text says.
+    /// How many stages it has.
     pub stages: Number,
 }
 
-/// A part of the top's body.
+/// The tree of a design text, without its version.
 #[derive(Debug, Drop)]
-pub enum Body {
-    /// A statement, as a module has them.
-    Statement(Statement),
-    /// `implement`: the name of a service that the host implements.
-    Implement(Name),
-}
-
-/// The top of a design.
-#[derive(Debug, Drop)]
-pub struct Top {
-    /// The top's name.
-    pub name: Name,
-    /// The parts of its body, in the text's order, maybe none.
-    pub body: List<Body>,
-}
-
-/// What a design text has behind its version.
-#[derive(Debug, Drop)]
-pub enum Form {
+pub enum DesignTree {
     /// A pipe alone.
     Pipe(Pipe),
-    /// Items, and the top.
-    Parts {
-        /// The declarations in front of the top, in the text's order, maybe none.
-        items: List<Item>,
+    /// Bundles, services and modules, and the top.
+    Modules {
+        /// The declarations before the top, in the text's order, maybe none.
+        declarations: List<Declaration>,
         /// The top.
         top: Top,
     },

@@ -1,36 +1,16 @@
 //! Expressions, which compute a value from those of variables.
-use crate::names::{Name, Number};
+use crate::leaves::{Name, Number};
+use crate::operators::Binary;
 use channel_types::EsiType;
 use esi_base::List;
 use sqlite_items::{Boxed, Items};
 
-/// An operator of two operands.
-#[derive(Clone, Copy, Debug, PartialEq, Eq)]
-pub enum Binary {
-    /// `and`: bit by bit, 1 where both are.
-    And,
-    /// `or`: bit by bit, 1 where one is.
-    Or,
-    /// `xor`: bit by bit, 1 where exactly one is.
-    Xor,
-    /// `add`: the sum.
-    Add,
-    /// `sub`: the difference.
-    Sub,
-    /// `eq`: whether both are the same, a bit.
-    Eq,
-    /// `lt`: whether the left one is less, a bit.
-    Lt,
-    /// `cat`: the bits of both in a row, the left one's above.
-    Cat,
-}
-
-/// What stands behind an expression, and takes a part of its value.
+/// What follows an expression, and takes a part of its value.
 #[derive(Debug, Drop)]
 pub enum Suffix {
-    /// A field of a struct, behind a dot.
+    /// A field of a struct: a dot and its name.
     Field(Name),
-    /// An item of an array, in brackets.
+    /// An element of an array: its index, in brackets.
     Element(Number),
 }
 
@@ -40,10 +20,10 @@ pub enum Suffix {
 pub enum Expression {
     /// The value of a variable.
     Variable(Name),
-    /// A part of a value, by one suffix or more: each takes its part of what those before it give. However
-    /// many stand in a row, the tree grows no deeper.
+    /// A part of a value, by one suffix or more: each takes its part of what those before it give. The
+    /// tree is no deeper for many suffixes than for one.
     Part {
-        /// What the value is a part of; it has no suffixes of its own.
+        /// The expression whose value it is a part of; it has no suffixes of its own.
         of: Boxed<Expression>,
         /// The suffixes, in the text's order, one at least.
         suffixes: List<Suffix>,
@@ -57,49 +37,49 @@ pub enum Expression {
         /// The number.
         value: Number,
     },
-    /// A struct of its fields, or an array of its items.
+    /// A struct of its fields, or an array of its elements.
     Make {
         /// The offset of the first octet of the operator's word.
         at: usize,
-        /// The type of the value, a struct's or an array's where it is right.
+        /// The type of the value. That it is a struct or an array is checked later.
         ty: EsiType,
-        /// The fields or the items, in the text's order, maybe none.
+        /// The fields or the elements, in the text's order, maybe none.
         parts: Items<Expression>,
     },
     /// The same bits as a value of another type.
     Cast {
         /// The offset of the first octet of the operator's word.
         at: usize,
-        /// The type that the value gets.
+        /// The type of the result.
         ty: EsiType,
         /// The value whose bits they are.
         of: Boxed<Expression>,
     },
-    /// A number with zero bits in front, up to a width in bits.
+    /// Zero extension: a number with zero bits above it, up to a width in bits.
     Zext {
         /// The offset of the first octet of the operator's word.
         at: usize,
-        /// The width that the value gets, in bits.
+        /// The width of the result, in bits.
         width: Number,
-        /// The number without the zero bits.
+        /// The number that is extended.
         of: Boxed<Expression>,
     },
-    /// The bits from one place down to another.
+    /// The bits from one index down to another.
     Slice {
         /// The offset of the first octet of the operator's word.
         at: usize,
-        /// The place of the highest bit; places count from 0, the lowest bit's.
+        /// The index of the highest bit; the lowest bit of a value has the index 0.
         high: Number,
-        /// The place of the lowest bit.
+        /// The index of the lowest bit.
         low: Number,
         /// The value whose bits they are.
         of: Boxed<Expression>,
     },
-    /// Each bit turned over.
+    /// The complement of each bit.
     Not {
         /// The offset of the first octet of the operator's word.
         at: usize,
-        /// The value whose bits are turned over.
+        /// The value whose bits are complemented.
         of: Boxed<Expression>,
     },
     /// An operator of two operands.
@@ -113,15 +93,15 @@ pub enum Expression {
         /// The second operand.
         right: Boxed<Expression>,
     },
-    /// One of two, by a bit.
+    /// A multiplexer: one of two values, chosen by a bit.
     Mux {
         /// The offset of the first octet of the operator's word.
         at: usize,
         /// The bit.
         condition: Boxed<Expression>,
         /// The value where the bit is 1.
-        one: Boxed<Expression>,
+        when_one: Boxed<Expression>,
         /// The value where the bit is 0.
-        zero: Boxed<Expression>,
+        when_zero: Boxed<Expression>,
     },
 }

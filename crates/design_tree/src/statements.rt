@@ -1,6 +1,6 @@
-//! The statements of a body.
+//! The statements of a body, and the operations that make channels.
 use crate::expression::Expression;
-use crate::names::{ApplicationId, Name, Number, Reference};
+use crate::leaves::{ApplicationId, Name, Number, Reference};
 use channel_types::EsiType;
 use esi_base::List;
 
@@ -13,7 +13,7 @@ pub struct Binding {
     pub source: Reference,
 }
 
-/// What makes channels of others.
+/// An operation, which makes channels from others.
 #[derive(Debug, Drop)]
 pub enum Operation {
     /// A register stage.
@@ -24,16 +24,16 @@ pub enum Operation {
     AsFifo(Reference),
     /// Valid and ready from FIFO signalling.
     AsVr(Reference),
-    /// So many stages in a row.
+    /// A number of stages in a row.
     Buffer {
         /// How many stages.
         stages: Number,
         /// The channel that goes through them.
         source: Reference,
     },
-    /// A queue of so many places.
+    /// A queue that holds up to a number of values.
     Fifo {
-        /// How many places the queue has.
+        /// How many values the queue holds.
         depth: Number,
         /// The channel that goes through it.
         source: Reference,
@@ -51,7 +51,7 @@ pub enum Operation {
         source: Reference,
         /// The name of the value in the body.
         variable: Name,
-        /// What each value becomes.
+        /// The expression that gives the result for each value.
         body: Expression,
     },
     /// A function of a state and each value, which is the next state too.
@@ -66,7 +66,7 @@ pub enum Operation {
         initial: Number,
         /// The name of the value in the body.
         variable: Name,
-        /// What each value becomes, and the next state.
+        /// The expression that gives the result for each value, which is the next state too.
         body: Expression,
     },
 }
@@ -74,7 +74,7 @@ pub enum Operation {
 /// A statement of a module's body, or of the top's.
 #[derive(Debug, Drop)]
 pub enum Statement {
-    /// Asks a service's port for channels, which get an application id.
+    /// Requests the channels of a service's port under an application id.
     Request {
         /// The offset of the first octet of `request`.
         at: usize,
@@ -82,30 +82,30 @@ pub enum Statement {
         service: Name,
         /// The name of the service's port.
         port: Name,
-        /// The application id that the channels get.
+        /// The application id of the channels.
         id: ApplicationId,
     },
     /// An instance of a module.
     Instance {
         /// The offset of the first octet of `inst`.
         at: usize,
-        /// The application id that the instance gets.
+        /// The application id of the instance.
         id: ApplicationId,
         /// The name of the module.
         module: Name,
         /// What its ports are bound to, in the text's order, maybe none.
         bindings: List<Binding>,
     },
-    /// Names for what an operation makes.
+    /// Names for the channels that an operation makes.
     Channels {
         /// The offset of the first octet of `chan`.
         at: usize,
         /// The names of the channels, in the text's order, one at least.
         names: List<Name>,
-        /// What makes them.
+        /// The operation that makes them.
         operation: Operation,
     },
-    /// What an output is driven by.
+    /// Drives an output.
     Drive {
         /// The offset of the first octet of `drive`.
         at: usize,

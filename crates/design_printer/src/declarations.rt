@@ -1,42 +1,32 @@
-//! Bundles, services and modules.
+//! The printers of bundles, services and modules.
 ghost use Rattle.std.specs.Prelude.{◌≡◌, map, OnOk};
 ghost use Rattle.std.specs.List.{flat_map};
-ghost use Rattle.design_tree.specs.Tokens.{listed, direction_word, port_direction_word, member_tokens, bundle_tokens, service_port_tokens, service_tokens, module_port_tokens, module_tokens, statement_tokens, item_tokens};
-ghost use Rattle.design_printer.specs.Added.{added};
+ghost use Rattle.design_tree.specs.Tokens.{with_commas, member_tokens, bundle_tokens, service_port_tokens, service_tokens, module_port_tokens, module_tokens, statement_tokens, declaration_tokens};
+ghost use Rattle.design_printer.specs.Printers.{with_tokens};
 
 use crate::leaves::{print_comma, print_name};
 use crate::printer::Printer;
 use crate::statements::print_statement;
 use crate::types::print_type;
 use design_tree::{
-    Bundle, Direction, Item, Member, Module, ModulePort, PortDirection, Service, ServicePort,
-    Statement,
+    Bundle, Declaration, Member, Module, ModulePort, Service, ServicePort, Statement,
 };
 use esi_base::NoMemory;
 
-fn direction_word(direction: Direction) -> &'static [u8]
-    ensures { result.now ≡ direction_word direction }
-{
-    match direction {
-        Direction::ToHardware => b"to_hw",
-        Direction::FromHardware => b"from_hw",
-    }
-}
-
 #[tactic(auto, using(crate::proofs::Steps::steps))]
 fn print_member(printer: &mut Printer, member: &Member) -> Result<(), NoMemory>
-    ensures { OnOk result (printer.new ≡ added (member_tokens member.now) printer.old) }
+    ensures { OnOk result (printer.new ≡ with_tokens (member_tokens member.now) printer.old) }
 {
     print_name(printer, &member.name)?;
     printer.sign(b':')?;
-    printer.word(direction_word(member.direction))?;
+    printer.word(member.direction.word())?;
     print_type(printer, &member.ty)?;
     printer.sign(b';')
 }
 
 #[tactic(auto, using(crate::proofs::Steps::steps))]
 fn print_bundle(printer: &mut Printer, bundle: &Bundle) -> Result<(), NoMemory>
-    ensures { OnOk result (printer.new ≡ added (bundle_tokens bundle.now) printer.old) }
+    ensures { OnOk result (printer.new ≡ with_tokens (bundle_tokens bundle.now) printer.old) }
 {
     printer.word(b"bundle")?;
     print_name(printer, &bundle.name)?;
@@ -48,7 +38,7 @@ fn print_bundle(printer: &mut Printer, bundle: &Bundle) -> Result<(), NoMemory>
 }
 
 fn print_service_port(printer: &mut Printer, port: &ServicePort) -> Result<(), NoMemory>
-    ensures { OnOk result (printer.new ≡ added (service_port_tokens port.now) printer.old) }
+    ensures { OnOk result (printer.new ≡ with_tokens (service_port_tokens port.now) printer.old) }
 {
     printer.word(b"port")?;
     print_name(printer, &port.name)?;
@@ -59,7 +49,7 @@ fn print_service_port(printer: &mut Printer, port: &ServicePort) -> Result<(), N
 
 #[tactic(auto, using(crate::proofs::Steps::steps))]
 fn print_service(printer: &mut Printer, service: &Service) -> Result<(), NoMemory>
-    ensures { OnOk result (printer.new ≡ added (service_tokens service.now) printer.old) }
+    ensures { OnOk result (printer.new ≡ with_tokens (service_tokens service.now) printer.old) }
 {
     printer.word(b"service")?;
     print_name(printer, &service.name)?;
@@ -70,19 +60,10 @@ fn print_service(printer: &mut Printer, service: &Service) -> Result<(), NoMemor
     printer.sign(b'}')
 }
 
-fn port_direction_word(direction: PortDirection) -> &'static [u8]
-    ensures { result.now ≡ port_direction_word direction }
-{
-    match direction {
-        PortDirection::In => b"in",
-        PortDirection::Out => b"out",
-    }
-}
-
 fn print_module_port(printer: &mut Printer, port: &ModulePort) -> Result<(), NoMemory>
-    ensures { OnOk result (printer.new ≡ added (module_port_tokens port.now) printer.old) }
+    ensures { OnOk result (printer.new ≡ with_tokens (module_port_tokens port.now) printer.old) }
 {
-    printer.word(port_direction_word(port.direction))?;
+    printer.word(port.direction.word())?;
     print_name(printer, &port.name)?;
     printer.sign(b':')?;
     print_type(printer, &port.ty)
@@ -90,7 +71,7 @@ fn print_module_port(printer: &mut Printer, port: &ModulePort) -> Result<(), NoM
 
 #[tactic(auto, using(crate::proofs::Steps::steps))]
 fn print_module_ports(printer: &mut Printer, ports: &[ModulePort]) -> Result<(), NoMemory>
-    ensures { OnOk result (printer.new ≡ added (listed (map module_port_tokens ports.now)) printer.old) }
+    ensures { OnOk result (printer.new ≡ with_tokens (with_commas (map module_port_tokens ports.now)) printer.old) }
 {
     let mut is_first = true;
     for port in ports {
@@ -103,7 +84,7 @@ fn print_module_ports(printer: &mut Printer, ports: &[ModulePort]) -> Result<(),
 
 #[tactic(auto, using(crate::proofs::Steps::steps))]
 fn print_statements(printer: &mut Printer, statements: &[Statement]) -> Result<(), NoMemory>
-    ensures { OnOk result (printer.new ≡ added (flat_map statement_tokens statements.now) printer.old) }
+    ensures { OnOk result (printer.new ≡ with_tokens (flat_map statement_tokens statements.now) printer.old) }
 {
     for statement in statements {
         print_statement(printer, statement)?;
@@ -113,7 +94,7 @@ fn print_statements(printer: &mut Printer, statements: &[Statement]) -> Result<(
 
 #[tactic(auto, using(crate::proofs::Steps::steps))]
 fn print_module(printer: &mut Printer, definition: &Module) -> Result<(), NoMemory>
-    ensures { OnOk result (printer.new ≡ added (module_tokens definition.now) printer.old) }
+    ensures { OnOk result (printer.new ≡ with_tokens (module_tokens definition.now) printer.old) }
 {
     printer.word(b"module")?;
     print_name(printer, &definition.name)?;
@@ -126,12 +107,12 @@ fn print_module(printer: &mut Printer, definition: &Module) -> Result<(), NoMemo
 }
 
 /// Adds a bundle, a service or a module.
-pub fn print_item(printer: &mut Printer, item: &Item) -> Result<(), NoMemory>
-    ensures { OnOk result (printer.new ≡ added (item_tokens item.now) printer.old) }
+pub fn print_declaration(printer: &mut Printer, declaration: &Declaration) -> Result<(), NoMemory>
+    ensures { OnOk result (printer.new ≡ with_tokens (declaration_tokens declaration.now) printer.old) }
 {
-    match item {
-        Item::Bundle(bundle) => print_bundle(printer, bundle),
-        Item::Service(service) => print_service(printer, service),
-        Item::Module(definition) => print_module(printer, definition),
+    match declaration {
+        Declaration::Bundle(bundle) => print_bundle(printer, bundle),
+        Declaration::Service(service) => print_service(printer, service),
+        Declaration::Module(definition) => print_module(printer, definition),
     }
 }

@@ -1,5 +1,5 @@
-//! What stands in front of the top: bundles, services and modules.
-use crate::names::Name;
+//! The declarations before the top: bundles, services and modules.
+use crate::leaves::Name;
 use crate::statements::Statement;
 use channel_types::EsiType;
 use esi_base::List;
@@ -13,6 +13,21 @@ pub enum Direction {
     FromHardware,
 }
 
+impl Direction {
+    ghost use Rattle.std.specs.Prelude.{◌≡◌};
+    ghost use Rattle.design_tree.specs.Words.{direction_word};
+
+    /// The word with which the direction is written.
+    pub fn word(self) -> &'static [u8]
+        ensures { result.now ≡ direction_word self }
+    {
+        match self {
+            Direction::ToHardware => b"to_hw",
+            Direction::FromHardware => b"from_hw",
+        }
+    }
+}
+
 /// A channel of a bundle.
 #[derive(Debug, Drop)]
 pub struct Member {
@@ -24,7 +39,7 @@ pub struct Member {
     pub ty: EsiType,
 }
 
-/// Channels under one name.
+/// A bundle: channels under one name.
 #[derive(Debug, Drop)]
 pub struct Bundle {
     /// The bundle's name.
@@ -33,12 +48,12 @@ pub struct Bundle {
     pub members: List<Member>,
 }
 
-/// What may be requested of a service: a bundle, by its name.
+/// A port of a service, at which a bundle of channels may be requested.
 #[derive(Debug, Drop)]
 pub struct ServicePort {
     /// The port's name in the service.
     pub name: Name,
-    /// The name of the bundle that a request gets.
+    /// The name of the bundle that a request of the port gives.
     pub bundle: Name,
 }
 
@@ -60,6 +75,21 @@ pub enum PortDirection {
     Out,
 }
 
+impl PortDirection {
+    ghost use Rattle.std.specs.Prelude.{◌≡◌};
+    ghost use Rattle.design_tree.specs.Words.{port_direction_word};
+
+    /// The word with which the direction is written.
+    pub fn word(self) -> &'static [u8]
+        ensures { result.now ≡ port_direction_word self }
+    {
+        match self {
+            PortDirection::In => b"in",
+            PortDirection::Out => b"out",
+        }
+    }
+}
+
 /// A port of a module.
 #[derive(Debug, Drop)]
 pub struct ModulePort {
@@ -71,7 +101,7 @@ pub struct ModulePort {
     pub ty: EsiType,
 }
 
-/// A part of a design that may stand in others, so often.
+/// A module: a part of a design, of which there may be any number of instances.
 #[derive(Debug, Drop)]
 pub struct Module {
     /// The module's name.
@@ -82,9 +112,9 @@ pub struct Module {
     pub body: List<Statement>,
 }
 
-/// A declaration in front of the top.
+/// A declaration before the top.
 #[derive(Debug, Drop)]
-pub enum Item {
+pub enum Declaration {
     /// A bundle of channels.
     Bundle(Bundle),
     /// A service that a top may implement.

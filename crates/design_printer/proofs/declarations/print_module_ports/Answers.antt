@@ -1,6 +1,6 @@
 use Rattle.design_tree.specs.Tokens.{module_port_tokens}
 use Rattle.design_printer.proofs.Firsts.{next_listed}
-use Rattle.design_printer.proofs.items.print_module_ports.Goals as goal
+use Rattle.design_printer.proofs.declarations.print_module_ports.Goals as goal
 
 pub loop-port-preserved : goal.loop-port-preserved
 loop-port-preserved c =

@@ -1,4 +1,5 @@
-//! The leaves of the tree: names, numbers, application ids and references.
+//! The leaves of the tree, on which expressions and statements stand: names, numbers, application ids and
+//! references.
 use esi_base::Octets;
 
 /// A name of the text.
@@ -19,12 +20,12 @@ pub struct Number {
     pub at: usize,
 }
 
-/// The application id of a request or an instance: a name, and in brackets a number if it has one.
+/// The application id of a request or an instance: a name and, where it has one, an index in brackets.
 #[derive(Debug, Drop)]
 pub struct ApplicationId {
-    /// The name, which begins it.
+    /// Its name.
     pub name: Name,
-    /// The number in brackets.
+    /// The index in brackets.
     pub index: Option<u32>,
 }
 
@@ -33,7 +34,7 @@ pub struct ApplicationId {
 pub enum Reference {
     /// A channel or a port of the module.
     Channel(Name),
-    /// A member of a request, or a port of an instance, behind its application id and a dot.
+    /// A member of a request, or a port of an instance: an application id, a dot and a name.
     Member {
         /// The application id of the request or the instance.
         id: ApplicationId,

@@ -1,8 +1,0 @@
-use Rattle.std.proofs.Common.{◌≡◌, take}
-use Rattle.std.specs.List.{flat_map}
-use Rattle.design_tree.specs.Tokens.{member_tokens}
-use Rattle.design_printer.specs.Added.{added}
-use Rattle.design_printer.proofs.items.print_bundle.Given as goal
-
-abbrev pub invariant-loop-member : goal.invariant-loop-member
-invariant-loop-member l = l.printer ≡ added (flat_map member_tokens (take l.member-index l.member-items)) l.initial.printer
