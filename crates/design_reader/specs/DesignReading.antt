@@ -1,68 +1,68 @@
--- What the readers of items and designs answer, as functions of the lexemes that are left.
+-- The readers of declarations and designs, as functions of the lexemes that are left.
 use Rattle.std.specs.Prelude.{ℕ, List, [], ◌∷◌, ◌++◌}
-use Rattle.grammar_law.specs.Rule.{Kinds}
-use Rattle.grammar_law.specs.Readers.{Reader, pure, ◌>>=◌, ◌>>◌, on, on_any, all_onto}
-use Rattle.esi_lex.specs.declared.token.Token.{Token}
-use Rattle.design_tokens.specs.declared.kind.Kind.TheVariants.{One, Semicolon, Colon, Comma, OpenBrace, CloseBrace, OpenParenthesis, CloseParenthesis, Esi, Pipe, Stages, Bundle, Service, Module, Top, ToHw, FromHw, Port, In, Out, Implement}
-use Rattle.design_tokens.specs.Kinds.{code, names}
-use Rattle.design_tokens.specs.Grammar.{expect}
-use Rattle.design_tokens.specs.Rules.{designs}
+use Rattle.ll1_grammar.specs.Rule.{Kinds}
+use Rattle.ll1_grammar.specs.Readers.{Reader, pure, ◌>>=◌, ◌>>◌, on, on_any, all_onto}
+use Rattle.design_lex.specs.declared.token.Token.{Token}
+use Rattle.design_grammar.specs.declared.kind.Kind.TheVariants.{One, Semicolon, Colon, Comma, OpenBrace, CloseBrace, OpenParenthesis, CloseParenthesis, Esi, Pipe, Stages, Bundle, Service, Module, Top, ToHw, FromHw, Port, In, Out, Implement}
+use Rattle.design_grammar.specs.Kinds.{code, names}
+use Rattle.design_grammar.specs.Grammar.{expect}
+use Rattle.design_grammar.specs.Rules.{designs}
 use Rattle.channel_types.specs.TypeGrammar.{Found}
 use Rattle.design_tree.specs.declared.statements.Statement.{Statement}
-use Rattle.design_tree.specs.declared.items.Direction.{Direction}
-use Rattle.design_tree.specs.declared.items.Direction.TheVariants.{ToHardware, FromHardware}
-use Rattle.design_tree.specs.declared.items.Member.{Member}
-use Rattle.design_tree.specs.declared.items.Bundle as a_bundle
-use Rattle.design_tree.specs.declared.items.ServicePort.{ServicePort}
-use Rattle.design_tree.specs.declared.items.Service as a_service
-use Rattle.design_tree.specs.declared.items.PortDirection.{PortDirection}
-use Rattle.design_tree.specs.declared.items.PortDirection.TheVariants as D
-use Rattle.design_tree.specs.declared.items.ModulePort.{ModulePort}
-use Rattle.design_tree.specs.declared.items.Module as a_module
-use Rattle.design_tree.specs.declared.items.Item.{Item}
-use Rattle.design_tree.specs.declared.items.Item.TheVariants as I
+use Rattle.design_tree.specs.declared.declarations.Direction.{Direction}
+use Rattle.design_tree.specs.declared.declarations.Direction.TheVariants.{ToHardware, FromHardware}
+use Rattle.design_tree.specs.declared.declarations.Member.{Member}
+use Rattle.design_tree.specs.declared.declarations.Bundle as a_bundle
+use Rattle.design_tree.specs.declared.declarations.ServicePort.{ServicePort}
+use Rattle.design_tree.specs.declared.declarations.Service as a_service
+use Rattle.design_tree.specs.declared.declarations.PortDirection.{PortDirection}
+use Rattle.design_tree.specs.declared.declarations.PortDirection.TheVariants as D
+use Rattle.design_tree.specs.declared.declarations.ModulePort.{ModulePort}
+use Rattle.design_tree.specs.declared.declarations.Module as a_module
+use Rattle.design_tree.specs.declared.declarations.Declaration.{Declaration}
+use Rattle.design_tree.specs.declared.declarations.Declaration.TheVariants as I
 use Rattle.design_tree.specs.declared.design.Pipe as a_pipe
-use Rattle.design_tree.specs.declared.design.Body.{Body}
-use Rattle.design_tree.specs.declared.design.Body.TheVariants as B
-use Rattle.design_tree.specs.declared.design.Top as a_top
-use Rattle.design_tree.specs.declared.design.Form.{Form}
-use Rattle.design_tree.specs.declared.design.Form.TheVariants as F
-use Rattle.type_reader.specs.TypeReading.{type_at}
-use Rattle.expression_reader.specs.ExpressionReading.{placed_name, placed_number, expression_at}
-use Rattle.statement_reader.specs.StatementReading.{statement as statement_by, statement_starts}
+use Rattle.design_tree.specs.declared.top.TopItem.{TopItem}
+use Rattle.design_tree.specs.declared.top.TopItem.TheVariants as B
+use Rattle.design_tree.specs.declared.top.Top as a_top
+use Rattle.design_tree.specs.declared.design.DesignTree.{DesignTree}
+use Rattle.design_tree.specs.declared.design.DesignTree.TheVariants as F
+use Rattle.design_types.specs.TypeReading.{type_at}
+use Rattle.design_expressions.specs.ExpressionReading.{next_name, next_number, expression_at}
+use Rattle.design_statements.specs.StatementReading.{statement_at, statement_starts}
 
--- the kinds with which a module's port, a statement, a part of the top's body, and an item begin
+-- the kinds with which a module's port, an item of the top's body, and a declaration begin
 abbrev pub port_starts : Kinds
 port_starts = code In ∷ code Out ∷ []
 
-abbrev pub part_starts : Kinds
-part_starts = statement_starts ++ code Implement ∷ []
+abbrev pub top_item_starts : Kinds
+top_item_starts = statement_starts ++ code Implement ∷ []
 
-abbrev pub item_starts : Kinds
-item_starts = code Bundle ∷ code Service ∷ code Module ∷ []
+abbrev pub declaration_starts : Kinds
+declaration_starts = code Bundle ∷ code Service ∷ code Module ∷ []
 
 -- ---- services
 
 unfoldable pub service_port : Reader Token ServicePort
 service_port = do
   expect Port
-  n ← placed_name
+  n ← next_name
   expect Colon
-  b ← placed_name
+  b ← next_name
   expect Semicolon
   pure (record { name = n; bundle = b })
 
 unfoldable pub one_more_service_port : List ServicePort → Reader Token (List ServicePort)
 one_more_service_port front = service_port >>= λ p. pure (front ++ p ∷ [])
 
--- the first and all behind it
+-- the first and all after it
 abbrev pub more_service_ports : ServicePort → Reader Token (List ServicePort)
 more_service_ports p = all_onto designs (code Port ∷ []) one_more_service_port (p ∷ [])
 
 unfoldable pub service : Reader Token a_service.Service
 service = do
   expect Service
-  n ← placed_name
+  n ← next_name
   expect OpenBrace
   p ← service_port
   ps ← more_service_ports p
@@ -71,10 +71,10 @@ service = do
 
 -- ---- what the top implements
 
-unfoldable pub implement : Reader Token Body
+unfoldable pub implement : Reader Token TopItem
 implement = do
   expect Implement
-  n ← placed_name
+  n ← next_name
   expect Semicolon
   pure (B.Implement n)
 
@@ -102,7 +102,7 @@ port_direction = on designs (code In) inwards outwards
 module _ (inner : Reader Token Found) where
   unfoldable pub member : Reader Token Member
   member = do
-    n ← placed_name
+    n ← next_name
     expect Colon
     d ← direction
     ty ← inner
@@ -112,14 +112,14 @@ module _ (inner : Reader Token Found) where
   unfoldable pub one_more_member : List Member → Reader Token (List Member)
   one_more_member front = member >>= λ m. pure (front ++ m ∷ [])
 
-  -- the first and all behind it
+  -- the first and all after it
   abbrev pub more_members : Member → Reader Token (List Member)
   more_members m = all_onto designs names one_more_member (m ∷ [])
 
   unfoldable pub bundle : Reader Token a_bundle.Bundle
   bundle = do
     expect Bundle
-    n ← placed_name
+    n ← next_name
     expect OpenBrace
     m ← member
     ms ← more_members m
@@ -129,16 +129,16 @@ module _ (inner : Reader Token Found) where
   unfoldable pub module_port : Reader Token ModulePort
   module_port = do
     d ← port_direction
-    n ← placed_name
+    n ← next_name
     expect Colon
     ty ← inner
     pure (record { direction = d; name = n; ty = ty.0 })
 
-  -- one more behind a comma
+  -- one more, after a comma
   unfoldable pub one_more_module_port : List ModulePort → Reader Token (List ModulePort)
   one_more_module_port front = expect Comma >> (module_port >>= λ p. pure (front ++ p ∷ []))
 
-  -- the first and all those behind commas
+  -- the first and all those after commas
   abbrev pub more_module_ports : ModulePort → Reader Token (List ModulePort)
   more_module_ports p = all_onto designs (code Comma ∷ []) one_more_module_port (p ∷ [])
 
@@ -154,7 +154,7 @@ module _ (inner : Reader Token Found) where
     expect Pipe
     ty ← inner
     expect Stages
-    n ← placed_number
+    n ← next_number
     expect Semicolon
     pure (record { ty = ty.0; stages = n })
 
@@ -167,31 +167,31 @@ module _ (statement : Reader Token Statement) where
   abbrev pub statements : Reader Token (List Statement)
   statements = all_onto designs statement_starts one_more_statement []
 
-  unfoldable pub part : Reader Token Body
-  part = on_any designs statement_starts (statement >>= λ s. pure (B.Statement s)) implement
+  unfoldable pub top_item : Reader Token TopItem
+  top_item = on_any designs statement_starts (statement >>= λ s. pure (B.Statement s)) implement
 
-  unfoldable pub one_more_part : List Body → Reader Token (List Body)
-  one_more_part front = part >>= λ p. pure (front ++ p ∷ [])
+  unfoldable pub one_more_top_item : List TopItem → Reader Token (List TopItem)
+  one_more_top_item front = top_item >>= λ p. pure (front ++ p ∷ [])
 
-  abbrev pub parts : Reader Token (List Body)
-  parts = all_onto designs part_starts one_more_part []
+  abbrev pub top_items : Reader Token (List TopItem)
+  top_items = all_onto designs top_item_starts one_more_top_item []
 
   unfoldable pub top : Reader Token a_top.Top
   top = do
     expect Top
-    n ← placed_name
+    n ← next_name
     expect OpenBrace
-    ps ← parts
+    ps ← top_items
     expect CloseBrace
     pure (record { name = n; body = ps })
 
 -- ---- the whole
 
 module _ (inner : Reader Token Found) (statement : Reader Token Statement) where
-  unfoldable pub module_item : Reader Token a_module.Module
-  module_item = do
+  unfoldable pub module_definition : Reader Token a_module.Module
+  module_definition = do
     expect Module
-    n ← placed_name
+    n ← next_name
     expect OpenParenthesis
     ps ← module_ports inner
     expect CloseParenthesis
@@ -200,38 +200,35 @@ module _ (inner : Reader Token Found) (statement : Reader Token Statement) where
     expect CloseBrace
     pure (record { name = n; ports = ps; body = ss })
 
-  unfoldable pub module_as_item : Reader Token Item
-  module_as_item = module_item >>= λ m. pure (I.Module m)
+  unfoldable pub module_declaration : Reader Token Declaration
+  module_declaration = module_definition >>= λ m. pure (I.Module m)
 
-  unfoldable pub item : Reader Token Item
-  item = on designs (code Bundle) (bundle inner >>= λ b. pure (I.Bundle b)) (on designs (code Service) (service >>= λ s. pure (I.Service s)) module_as_item)
+  unfoldable pub declaration : Reader Token Declaration
+  declaration = on designs (code Bundle) (bundle inner >>= λ b. pure (I.Bundle b)) (on designs (code Service) (service >>= λ s. pure (I.Service s)) module_declaration)
 
-  unfoldable pub one_more_item : List Item → Reader Token (List Item)
-  one_more_item front = item >>= λ i. pure (front ++ i ∷ [])
+  unfoldable pub one_more_declaration : List Declaration → Reader Token (List Declaration)
+  one_more_declaration front = declaration >>= λ i. pure (front ++ i ∷ [])
 
-  abbrev pub all_items : Reader Token (List Item)
-  all_items = all_onto designs item_starts one_more_item []
+  abbrev pub declarations : Reader Token (List Declaration)
+  declarations = all_onto designs declaration_starts one_more_declaration []
 
-  unfoldable pub items_and_top : Reader Token Form
-  items_and_top = do
-    is ← all_items
+  unfoldable pub declarations_and_top : Reader Token DesignTree
+  declarations_and_top = do
+    is ← declarations
     t ← top statement
-    pure (F.Parts is t)
+    pure (F.Modules is t)
 
-  unfoldable pub form : Reader Token Form
-  form = on designs (code Pipe) (pipe inner >>= λ p. pure (F.Pipe p)) items_and_top
+  unfoldable pub tree : Reader Token DesignTree
+  tree = on designs (code Pipe) (pipe inner >>= λ p. pure (F.Pipe p)) declarations_and_top
 
-  -- the version line, and what stands behind it
-  unfoldable pub design : Reader Token Form
+  -- the version, and the tree after it
+  unfoldable pub design : Reader Token DesignTree
   design = do
     expect Esi
     expect One
     expect Semicolon
-    form
+    tree
 
--- with so many types open at most in a type, and so many expressions in an expression
-abbrev pub a_statement : ℕ → ℕ → Reader Token Statement
-a_statement types expressions = statement_by (type_at types) (expression_at expressions)
-
-abbrev pub a_design : ℕ → ℕ → Reader Token Form
-a_design types expressions = design (type_at types) (a_statement types expressions)
+-- with so many types and expressions inside one another at most
+abbrev pub design_at : ℕ → ℕ → Reader Token DesignTree
+design_at types expressions = design (type_at types) (statement_at types expressions)

@@ -1,23 +1,26 @@
 //! The readers of bundles.
 ghost use Rattle.std.specs.Prelude.{◌≡◌};
-ghost use Rattle.design_tokens.specs.Grammar.{AnswersAt};
-ghost use Rattle.type_reader.specs.TypeReading.{AddsAt, type_at};
+ghost use Rattle.esi_base.specs.Answers.{ReadsAs};
+ghost use Rattle.design_grammar.specs.Grammar.{AnswersAt, StandsAt};
+ghost use Rattle.design_types.specs.TypeReading.{type_at};
+ghost use Rattle.channel_types.specs.declared.limits.TheConstants.{OPEN_TYPES};
 ghost use Rattle.design_reader.specs.DesignReading as spec;
 
-use design_tokens::kind::is_name;
-use design_tokens::reading::expect;
-use design_tokens::{Halt, Kind, is_same, keep, kind_of};
+use design_expressions::next_name;
+use design_grammar::kind::is_name;
+use design_grammar::reading::expect;
+use design_grammar::{Kind, TokenStop, is_same, kind_of};
+use design_lex::Cursor;
 use design_tree::{Bundle, Direction, Member};
+use design_types::next_type;
 use esi_base::List;
-use esi_lex::Cursor;
-use expression_reader::next_name;
 use std::alloc::Global;
-use type_reader::next_type;
 
 /// `to_hw`
 #[tactic(auto, unfolding(crate::specs::DesignReading::to_hardware))]
-fn to_hardware(cursor: &mut Cursor<'_>) -> Result<Direction, Halt>
-    ensures { AnswersAt (spec.to_hardware cursor.old) result cursor.new }
+fn to_hardware(cursor: &mut Cursor<'_>) -> Result<Direction, TokenStop>
+    ensures reads { AnswersAt (spec.to_hardware cursor.old) result cursor.new }
+    ensures stands { StandsAt result cursor.new }
 {
     expect(cursor, Kind::ToHw)?;
     Ok(Direction::ToHardware)
@@ -25,8 +28,9 @@ fn to_hardware(cursor: &mut Cursor<'_>) -> Result<Direction, Halt>
 
 /// `from_hw`
 #[tactic(auto, unfolding(crate::specs::DesignReading::from_hardware))]
-fn from_hardware(cursor: &mut Cursor<'_>) -> Result<Direction, Halt>
-    ensures { AnswersAt (spec.from_hardware cursor.old) result cursor.new }
+fn from_hardware(cursor: &mut Cursor<'_>) -> Result<Direction, TokenStop>
+    ensures reads { AnswersAt (spec.from_hardware cursor.old) result cursor.new }
+    ensures stands { StandsAt result cursor.new }
 {
     expect(cursor, Kind::FromHw)?;
     Ok(Direction::FromHardware)
@@ -34,8 +38,9 @@ fn from_hardware(cursor: &mut Cursor<'_>) -> Result<Direction, Halt>
 
 /// Which way a channel goes.
 #[tactic(auto, unfolding(crate::specs::DesignReading::direction))]
-fn direction(cursor: &mut Cursor<'_>) -> Result<Direction, Halt>
-    ensures { AnswersAt (spec.direction cursor.old) result cursor.new }
+fn direction(cursor: &mut Cursor<'_>) -> Result<Direction, TokenStop>
+    ensures reads { AnswersAt (spec.direction cursor.old) result cursor.new }
+    ensures stands { StandsAt result cursor.new }
 {
     if is_same(kind_of(cursor.peek()), Kind::ToHw) {
         to_hardware(cursor)
@@ -46,8 +51,9 @@ fn direction(cursor: &mut Cursor<'_>) -> Result<Direction, Halt>
 
 /// A channel of a bundle.
 #[tactic(auto, unfolding(crate::specs::DesignReading::member))]
-fn member(cursor: &mut Cursor<'_>, alloc: Global) -> Result<Member, Halt>
-    ensures { AnswersAt (spec.member (type_at 16) cursor.old) result cursor.new }
+fn member(cursor: &mut Cursor<'_>, alloc: Global) -> Result<Member, TokenStop>
+    ensures reads { AnswersAt (spec.member (type_at OPEN_TYPES) cursor.old) result cursor.new }
+    ensures stands { StandsAt result cursor.new }
 {
     let name = next_name(cursor, alloc)?;
     expect(cursor, Kind::Colon)?;
@@ -67,19 +73,26 @@ fn one_more_member(
     cursor: &mut Cursor<'_>,
     alloc: Global,
     members: &mut List<Member>,
-) -> Result<(), Halt>
-    ensures { AddsAt (spec.one_more_member (type_at 16) members.old cursor.old) result members.new cursor.new }
+) -> Result<(), TokenStop>
+    ensures reads { ReadsAs (λ _. members.new) (spec.one_more_member (type_at OPEN_TYPES) members.old cursor.old) result cursor.new }
+    ensures stands { StandsAt result cursor.new }
 {
     let member = member(cursor, alloc)?;
-    keep(members, member)
+    members.add(member)?;
+    Ok(())
 }
 
-/// All channels, of which the first was read.
-fn more_members(cursor: &mut Cursor<'_>, alloc: Global, first: Member) -> Result<List<Member>, Halt>
-    ensures { AnswersAt (spec.more_members (type_at 16) first cursor.old) result cursor.new }
+/// All channels, of which the first was read already.
+fn more_members(
+    cursor: &mut Cursor<'_>,
+    alloc: Global,
+    first: Member,
+) -> Result<List<Member>, TokenStop>
+    ensures reads { AnswersAt (spec.more_members (type_at OPEN_TYPES) first cursor.old) result cursor.new }
+    ensures stands { StandsAt result cursor.new }
 {
     let mut members = List::new(alloc);
-    keep(&mut members, first)?;
+    members.add(first)?;
     while is_name(kind_of(cursor.peek())) {
         one_more_member(cursor, alloc, &mut members)?;
     }
@@ -88,8 +101,9 @@ fn more_members(cursor: &mut Cursor<'_>, alloc: Global, first: Member) -> Result
 
 /// A bundle: its name, and in braces its channels.
 #[tactic(auto, unfolding(crate::specs::DesignReading::bundle))]
-pub fn next_bundle(cursor: &mut Cursor<'_>, alloc: Global) -> Result<Bundle, Halt>
-    ensures { AnswersAt (spec.bundle (type_at 16) cursor.old) result cursor.new }
+pub fn next_bundle(cursor: &mut Cursor<'_>, alloc: Global) -> Result<Bundle, TokenStop>
+    ensures reads { AnswersAt (spec.bundle (type_at OPEN_TYPES) cursor.old) result cursor.new }
+    ensures stands { StandsAt result cursor.new }
 {
     expect(cursor, Kind::Bundle)?;
     let name = next_name(cursor, alloc)?;

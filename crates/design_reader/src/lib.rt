@@ -1,9 +1,11 @@
-//! Reads a whole design (docs/design-text.md): its items and its top, or its pipe.
+//! Reads a whole design (docs/design-text.md): its declarations and its top, or its pipe.
 #![tactic(auto)]
 
 mod bundles;
+mod design;
+pub mod law;
 mod modules;
 mod services;
-mod whole;
 
-pub use whole::next_design;
+pub use design::next_design;
+pub use law::design_law;

@@ -1,25 +1,30 @@
 //! The readers of modules.
 ghost use Rattle.std.specs.Prelude.{◌≡◌};
-ghost use Rattle.grammar_law.specs.Kinds.{among};
-ghost use Rattle.design_tokens.specs.Kinds as kinds;
-ghost use Rattle.design_tokens.specs.Grammar.{AnswersAt};
-ghost use Rattle.type_reader.specs.TypeReading.{AddsAt, type_at};
+ghost use Rattle.esi_base.specs.Answers.{ReadsAs};
+ghost use Rattle.ll1_grammar.specs.Kinds.{among};
+ghost use Rattle.design_grammar.specs.Kinds as kinds;
+ghost use Rattle.design_grammar.specs.Grammar.{AnswersAt, StandsAt};
+ghost use Rattle.design_types.specs.TypeReading.{type_at};
+ghost use Rattle.design_expressions.specs.declared.limits.TheConstants.{OPEN_EXPRESSIONS};
+ghost use Rattle.channel_types.specs.declared.limits.TheConstants.{OPEN_TYPES};
+ghost use Rattle.design_statements.specs.StatementReading.{statement_at};
 ghost use Rattle.design_reader.specs.DesignReading as spec;
 
-use design_tokens::reading::expect;
-use design_tokens::{Halt, Kind, is_same, keep, kind_of};
+use design_expressions::next_name;
+use design_grammar::reading::expect;
+use design_grammar::{Kind, TokenStop, is_same, kind_of};
+use design_lex::Cursor;
+use design_statements::{begins_statement, next_statement};
 use design_tree::{Module, ModulePort, PortDirection, Statement};
+use design_types::next_type;
 use esi_base::List;
-use esi_lex::Cursor;
-use expression_reader::next_name;
-use statement_reader::{begins_statement, next_statement};
 use std::alloc::Global;
-use type_reader::next_type;
 
 /// `in`
 #[tactic(auto, unfolding(crate::specs::DesignReading::inwards))]
-fn inwards(cursor: &mut Cursor<'_>) -> Result<PortDirection, Halt>
-    ensures { AnswersAt (spec.inwards cursor.old) result cursor.new }
+fn inwards(cursor: &mut Cursor<'_>) -> Result<PortDirection, TokenStop>
+    ensures reads { AnswersAt (spec.inwards cursor.old) result cursor.new }
+    ensures stands { StandsAt result cursor.new }
 {
     expect(cursor, Kind::In)?;
     Ok(PortDirection::In)
@@ -27,8 +32,9 @@ fn inwards(cursor: &mut Cursor<'_>) -> Result<PortDirection, Halt>
 
 /// `out`
 #[tactic(auto, unfolding(crate::specs::DesignReading::outwards))]
-fn outwards(cursor: &mut Cursor<'_>) -> Result<PortDirection, Halt>
-    ensures { AnswersAt (spec.outwards cursor.old) result cursor.new }
+fn outwards(cursor: &mut Cursor<'_>) -> Result<PortDirection, TokenStop>
+    ensures reads { AnswersAt (spec.outwards cursor.old) result cursor.new }
+    ensures stands { StandsAt result cursor.new }
 {
     expect(cursor, Kind::Out)?;
     Ok(PortDirection::Out)
@@ -36,8 +42,9 @@ fn outwards(cursor: &mut Cursor<'_>) -> Result<PortDirection, Halt>
 
 /// Which way a module's port goes.
 #[tactic(auto, unfolding(crate::specs::DesignReading::port_direction))]
-fn port_direction(cursor: &mut Cursor<'_>) -> Result<PortDirection, Halt>
-    ensures { AnswersAt (spec.port_direction cursor.old) result cursor.new }
+fn port_direction(cursor: &mut Cursor<'_>) -> Result<PortDirection, TokenStop>
+    ensures reads { AnswersAt (spec.port_direction cursor.old) result cursor.new }
+    ensures stands { StandsAt result cursor.new }
 {
     if is_same(kind_of(cursor.peek()), Kind::In) {
         inwards(cursor)
@@ -48,8 +55,9 @@ fn port_direction(cursor: &mut Cursor<'_>) -> Result<PortDirection, Halt>
 
 /// A port of a module.
 #[tactic(auto, unfolding(crate::specs::DesignReading::module_port))]
-fn module_port(cursor: &mut Cursor<'_>, alloc: Global) -> Result<ModulePort, Halt>
-    ensures { AnswersAt (spec.module_port (type_at 16) cursor.old) result cursor.new }
+fn module_port(cursor: &mut Cursor<'_>, alloc: Global) -> Result<ModulePort, TokenStop>
+    ensures reads { AnswersAt (spec.module_port (type_at OPEN_TYPES) cursor.old) result cursor.new }
+    ensures stands { StandsAt result cursor.new }
 {
     let direction = port_direction(cursor)?;
     let name = next_name(cursor, alloc)?;
@@ -62,30 +70,33 @@ fn module_port(cursor: &mut Cursor<'_>, alloc: Global) -> Result<ModulePort, Hal
     })
 }
 
-/// One more port behind a comma.
+/// One more port, after a comma.
 #[tactic(auto, unfolding(crate::specs::DesignReading::one_more_module_port))]
 fn one_more_module_port(
     cursor: &mut Cursor<'_>,
     alloc: Global,
     ports: &mut List<ModulePort>,
-) -> Result<(), Halt>
-    ensures { AddsAt (spec.one_more_module_port (type_at 16) ports.old cursor.old) result ports.new cursor.new }
+) -> Result<(), TokenStop>
+    ensures reads { ReadsAs (λ _. ports.new) (spec.one_more_module_port (type_at OPEN_TYPES) ports.old cursor.old) result cursor.new }
+    ensures stands { StandsAt result cursor.new }
 {
     expect(cursor, Kind::Comma)?;
     let port = module_port(cursor, alloc)?;
-    keep(ports, port)
+    ports.add(port)?;
+    Ok(())
 }
 
-/// All ports, of which the first was read.
+/// All ports, of which the first was read already.
 fn more_module_ports(
     cursor: &mut Cursor<'_>,
     alloc: Global,
     first: ModulePort,
-) -> Result<List<ModulePort>, Halt>
-    ensures { AnswersAt (spec.more_module_ports (type_at 16) first cursor.old) result cursor.new }
+) -> Result<List<ModulePort>, TokenStop>
+    ensures reads { AnswersAt (spec.more_module_ports (type_at OPEN_TYPES) first cursor.old) result cursor.new }
+    ensures stands { StandsAt result cursor.new }
 {
     let mut ports = List::new(alloc);
-    keep(&mut ports, first)?;
+    ports.add(first)?;
     while is_same(kind_of(cursor.peek()), Kind::Comma) {
         one_more_module_port(cursor, alloc, &mut ports)?;
     }
@@ -94,8 +105,12 @@ fn more_module_ports(
 
 /// One port or more, with commas between them.
 #[tactic(auto, unfolding(crate::specs::DesignReading::listed_module_ports))]
-fn listed_module_ports(cursor: &mut Cursor<'_>, alloc: Global) -> Result<List<ModulePort>, Halt>
-    ensures { AnswersAt (spec.listed_module_ports (type_at 16) cursor.old) result cursor.new }
+fn listed_module_ports(
+    cursor: &mut Cursor<'_>,
+    alloc: Global,
+) -> Result<List<ModulePort>, TokenStop>
+    ensures reads { AnswersAt (spec.listed_module_ports (type_at OPEN_TYPES) cursor.old) result cursor.new }
+    ensures stands { StandsAt result cursor.new }
 {
     let first = module_port(cursor, alloc)?;
     more_module_ports(cursor, alloc, first)
@@ -110,8 +125,9 @@ fn begins_port(kind: Kind) -> bool
 
 /// The ports of a module, maybe none.
 #[tactic(auto, unfolding(crate::specs::DesignReading::module_ports))]
-fn module_ports(cursor: &mut Cursor<'_>, alloc: Global) -> Result<List<ModulePort>, Halt>
-    ensures { AnswersAt (spec.module_ports (type_at 16) cursor.old) result cursor.new }
+fn module_ports(cursor: &mut Cursor<'_>, alloc: Global) -> Result<List<ModulePort>, TokenStop>
+    ensures reads { AnswersAt (spec.module_ports (type_at OPEN_TYPES) cursor.old) result cursor.new }
+    ensures stands { StandsAt result cursor.new }
 {
     if begins_port(kind_of(cursor.peek())) {
         listed_module_ports(cursor, alloc)
@@ -126,16 +142,19 @@ fn one_more_statement(
     cursor: &mut Cursor<'_>,
     alloc: Global,
     statements: &mut List<Statement>,
-) -> Result<(), Halt>
-    ensures { AddsAt (spec.one_more_statement (spec.a_statement 16 64) statements.old cursor.old) result statements.new cursor.new }
+) -> Result<(), TokenStop>
+    ensures reads { ReadsAs (λ _. statements.new) (spec.one_more_statement (statement_at OPEN_TYPES OPEN_EXPRESSIONS) statements.old cursor.old) result cursor.new }
+    ensures stands { StandsAt result cursor.new }
 {
     let statement = next_statement(cursor, alloc)?;
-    keep(statements, statement)
+    statements.add(statement)?;
+    Ok(())
 }
 
 /// The statements of a body, maybe none.
-fn statements(cursor: &mut Cursor<'_>, alloc: Global) -> Result<List<Statement>, Halt>
-    ensures { AnswersAt (spec.statements (spec.a_statement 16 64) cursor.old) result cursor.new }
+fn statements(cursor: &mut Cursor<'_>, alloc: Global) -> Result<List<Statement>, TokenStop>
+    ensures reads { AnswersAt (spec.statements (statement_at OPEN_TYPES OPEN_EXPRESSIONS) cursor.old) result cursor.new }
+    ensures stands { StandsAt result cursor.new }
 {
     let mut statements = List::new(alloc);
     while begins_statement(kind_of(cursor.peek())) {
@@ -145,9 +164,10 @@ fn statements(cursor: &mut Cursor<'_>, alloc: Global) -> Result<List<Statement>,
 }
 
 /// A module: its name, its ports in parentheses, and its body in braces.
-#[tactic(auto, unfolding(crate::specs::DesignReading::module_item))]
-pub fn next_module(cursor: &mut Cursor<'_>, alloc: Global) -> Result<Module, Halt>
-    ensures { AnswersAt (spec.module_item (type_at 16) (spec.a_statement 16 64) cursor.old) result cursor.new }
+#[tactic(auto, unfolding(crate::specs::DesignReading::module_definition))]
+pub fn next_module(cursor: &mut Cursor<'_>, alloc: Global) -> Result<Module, TokenStop>
+    ensures reads { AnswersAt (spec.module_definition (type_at OPEN_TYPES) (statement_at OPEN_TYPES OPEN_EXPRESSIONS) cursor.old) result cursor.new }
+    ensures stands { StandsAt result cursor.new }
 {
     expect(cursor, Kind::Module)?;
     let name = next_name(cursor, alloc)?;

@@ -1,21 +1,22 @@
 //! The readers of services.
 ghost use Rattle.std.specs.Prelude.{◌≡◌};
-ghost use Rattle.design_tokens.specs.Grammar.{AnswersAt};
-ghost use Rattle.type_reader.specs.TypeReading.{AddsAt};
+ghost use Rattle.esi_base.specs.Answers.{ReadsAs};
+ghost use Rattle.design_grammar.specs.Grammar.{AnswersAt, StandsAt};
 ghost use Rattle.design_reader.specs.DesignReading as spec;
 
-use design_tokens::reading::expect;
-use design_tokens::{Halt, Kind, is_same, keep, kind_of};
+use design_expressions::next_name;
+use design_grammar::reading::expect;
+use design_grammar::{Kind, TokenStop, is_same, kind_of};
+use design_lex::Cursor;
 use design_tree::{Service, ServicePort};
 use esi_base::List;
-use esi_lex::Cursor;
-use expression_reader::next_name;
 use std::alloc::Global;
 
 /// A port of a service.
 #[tactic(auto, unfolding(crate::specs::DesignReading::service_port))]
-fn service_port(cursor: &mut Cursor<'_>, alloc: Global) -> Result<ServicePort, Halt>
-    ensures { AnswersAt (spec.service_port cursor.old) result cursor.new }
+fn service_port(cursor: &mut Cursor<'_>, alloc: Global) -> Result<ServicePort, TokenStop>
+    ensures reads { AnswersAt (spec.service_port cursor.old) result cursor.new }
+    ensures stands { StandsAt result cursor.new }
 {
     expect(cursor, Kind::Port)?;
     let name = next_name(cursor, alloc)?;
@@ -31,23 +32,26 @@ fn one_more_service_port(
     cursor: &mut Cursor<'_>,
     alloc: Global,
     ports: &mut List<ServicePort>,
-) -> Result<(), Halt>
-    ensures { AddsAt (spec.one_more_service_port ports.old cursor.old) result ports.new cursor.new }
+) -> Result<(), TokenStop>
+    ensures reads { ReadsAs (λ _. ports.new) (spec.one_more_service_port ports.old cursor.old) result cursor.new }
+    ensures stands { StandsAt result cursor.new }
 {
     let port = service_port(cursor, alloc)?;
-    keep(ports, port)
+    ports.add(port)?;
+    Ok(())
 }
 
-/// All ports, of which the first was read.
+/// All ports, of which the first was read already.
 fn more_service_ports(
     cursor: &mut Cursor<'_>,
     alloc: Global,
     first: ServicePort,
-) -> Result<List<ServicePort>, Halt>
-    ensures { AnswersAt (spec.more_service_ports first cursor.old) result cursor.new }
+) -> Result<List<ServicePort>, TokenStop>
+    ensures reads { AnswersAt (spec.more_service_ports first cursor.old) result cursor.new }
+    ensures stands { StandsAt result cursor.new }
 {
     let mut ports = List::new(alloc);
-    keep(&mut ports, first)?;
+    ports.add(first)?;
     while is_same(kind_of(cursor.peek()), Kind::Port) {
         one_more_service_port(cursor, alloc, &mut ports)?;
     }
@@ -56,8 +60,9 @@ fn more_service_ports(
 
 /// A service: its name, and in braces its ports.
 #[tactic(auto, unfolding(crate::specs::DesignReading::service))]
-pub fn next_service(cursor: &mut Cursor<'_>, alloc: Global) -> Result<Service, Halt>
-    ensures { AnswersAt (spec.service cursor.old) result cursor.new }
+pub fn next_service(cursor: &mut Cursor<'_>, alloc: Global) -> Result<Service, TokenStop>
+    ensures reads { AnswersAt (spec.service cursor.old) result cursor.new }
+    ensures stands { StandsAt result cursor.new }
 {
     expect(cursor, Kind::Service)?;
     let name = next_name(cursor, alloc)?;

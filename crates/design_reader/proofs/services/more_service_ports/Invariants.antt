@@ -1,6 +1,6 @@
 use Rattle.std.proofs.Common.{[], ◌∷◌, length}
-use Rattle.grammar_law.specs.Turns.{Turning}
-use Rattle.design_tokens.specs.Rules.{designs}
+use Rattle.ll1_grammar.specs.Loops.{Turning}
+use Rattle.design_grammar.specs.Rules.{designs}
 use Rattle.design_reader.specs.DesignReading as spec
 use Rattle.design_reader.proofs.services.more_service_ports.Given as goal
 

@@ -1,0 +1,7 @@
+pub mod NextToken
+pub mod ExpressionValues
+pub mod ExpressionReading
+pub mod ExpressionTrees
+pub mod ExpressionLaw
+pub mod ExpressionSteps
+pub mod ExpressionTexts

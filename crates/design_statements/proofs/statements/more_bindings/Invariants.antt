@@ -1,0 +1,11 @@
+use Rattle.std.proofs.Common.{[], ◌∷◌, length}
+use Rattle.ll1_grammar.specs.Loops.{Turning}
+use Rattle.design_grammar.specs.Rules.{designs}
+use Rattle.design_statements.specs.StatementReading as spec
+use Rattle.design_statements.proofs.statements.more_bindings.Given as goal
+
+abbrev pub invariant-loop-alloc : goal.invariant-loop-alloc
+invariant-loop-alloc l = Turning designs (8 ∷ []) spec.one_more_binding (l.fn.first ∷ []) l.initial.cursor l.bindings l.cursor
+
+abbrev pub decreases-loop-alloc : goal.decreases-loop-alloc
+decreases-loop-alloc l = length l.cursor

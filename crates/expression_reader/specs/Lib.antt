@@ -1,5 +1,0 @@
-pub mod ExpressionValues
-pub mod ExpressionReading
-pub mod ExpressionTrees
-pub mod ExpressionLaw
-pub mod ExpressionSteps

@@ -1,4 +1,0 @@
-pub mod StatementValues
-pub mod StatementReading
-pub mod StatementLaw
-pub mod StatementSteps
