@@ -1,78 +1,83 @@
 -- What a design text means, by the grammar: the design that it is, or its refusal with its place.
-use Rattle.std.specs.Prelude.{◌≡◌, ℕ, List, [], ◌∷◌, length, nat_lt, Contains, Result, Ok, Err, if◌then◌else◌}
-use Rattle.grammar_law.specs.Rule.{Tree}
-use Rattle.grammar_law.specs.Trees.{Fault}
-use Rattle.grammar_law.specs.Looser.{no_judge}
-use Rattle.grammar_law.specs.Parse.{parse}
-use Rattle.grammar_law.specs.Readers.{Reader, ended}
-use Rattle.grammar_law.specs.Bridge.{seen}
-use Rattle.grammar_law.specs.Texts.{IsText, StopsAt}
+use Rattle.std.specs.Prelude.{◌≡◌, ℕ, List, [], ◌∷◌, length, nat_lt, Result, Ok, Err, if◌then◌else◌}
+use Rattle.ll1_grammar.specs.Rule.{Tree}
+use Rattle.ll1_grammar.specs.declared.refusal.TokenRefusal.{TokenRefusal}
+use Rattle.ll1_grammar.specs.WithoutLimits.{no_check}
+use Rattle.ll1_grammar.specs.Parse.{parse}
+use Rattle.ll1_grammar.specs.Readers.{Reader, read_to_end}
+use Rattle.ll1_grammar.specs.Bridge.{read_of}
+use Rattle.ll1_grammar.specs.Texts.{IsText, StopsAt}
 use Rattle.esi_base.specs.declared.place.Refusal.{Refusal}
-use Rattle.esi_lex.specs.declared.token.Token.{Token}
-use Rattle.esi_lex.specs.Tokens.{tokens}
-use Rattle.design_tokens.specs.declared.kind.Kind.TheVariants.{Nothing}
-use Rattle.design_tokens.specs.Kinds.{code}
-use Rattle.design_tokens.specs.Rules.{designs, design_rule}
+use Rattle.esi_base.specs.declared.stop.Stop.{Stop}
+use Rattle.esi_base.specs.declared.stop.Stop.TheVariants.{Refused, NoMemory}
+use Rattle.design_lex.specs.declared.token.Token.{Token}
+use Rattle.design_lex.specs.Tokens.{tokens}
+use Rattle.design_grammar.specs.declared.kind.Kind.TheVariants.{Nothing}
+use Rattle.design_grammar.specs.Kinds.{code}
+use Rattle.design_grammar.specs.Rules.{designs, design_rule}
 use Rattle.channel_types.specs.TypeAnswers.{refusal_at}
-use Rattle.design_tree.specs.declared.design.Form.{Form}
-use Rattle.expression_reader.specs.ExpressionTrees.{ExpressionTree, ExpressionBreak, expression_env}
-use Rattle.printed_designs.specs.Reread.{form_of}
-use Rattle.esi_text.specs.Limits.{longest_text}
+use Rattle.design_tree.specs.declared.design.DesignTree.{DesignTree}
+use Rattle.design_expressions.specs.ExpressionTrees.{ExpressionTree, ExpressionBreak, expression_env}
+use Rattle.design_expressions.specs.declared.limits.TheConstants.{OPEN_EXPRESSIONS}
+use Rattle.design_roundtrip.specs.RoundTrip.{design_of_tree}
+use Rattle.esi_text.specs.RuleNumbers.{rule_number}
+use Rattle.esi_text.specs.declared.limits.TheConstants.{LONGEST_DESIGN}
+use Rattle.esi_text.specs.declared.rule.DesignRule.TheVariants.{TooLong}
 
 -- the refusal of a text that is too long
 abbrev pub too_long : Refusal
-too_long = record { number = 210; place = record { line = 1; column = 1 } }
+too_long = record { number = rule_number TooLong; place = record { line = 1; column = 1 } }
 
--- what was read, told by line and column
-abbrev pub told_at : List ℕ → Result Form Fault → Result Form Refusal
-told_at text (Ok form) = Ok form
-told_at text (Err fault) = Err (refusal_at text fault)
+-- what tokens mean, with a refusal by line and column
+abbrev pub meaning_in : List ℕ → Result DesignTree TokenRefusal → Result DesignTree Refusal
+meaning_in text (Ok tree) = Ok tree
+meaning_in text (Err refusal) = Err (refusal_at text refusal)
 
--- at most 16 types and so many expressions may be open at a place
-module _ (levels : ℕ) where
+-- why a reader of tokens stopped, by line and column
+abbrev pub stop_in : List ℕ → Stop TokenRefusal → Stop Refusal
+stop_in text (Refused refusal) = Refused (refusal_at text refusal)
+stop_in text NoMemory = NoMemory
+
+-- as many types as may be open, and so many expressions, are open at a place at most
+module _ (depth : ℕ) where
   -- What lexemes mean: the grammar's own reader (`parse`) reads a design from them, as far as its rule goes. The design is
-  -- what the tree says that it reads (`form_of`); else it stops with a fault.
-  unfoldable pub design_by_grammar : Reader Token Form
-  design_by_grammar ts = seen designs (form_of 16 levels) (parse designs no_judge (expression_env levels) design_rule [] ts)
+  -- what the tree says that it reads (`design_of_tree`); else it stops with a refusal.
+  unfoldable pub design_by_grammar : Reader Token DesignTree
+  design_by_grammar ts = read_of designs (design_of_tree depth) (parse designs no_check (expression_env depth) design_rule [] ts)
 
-  -- The lexemes of a whole text: behind the design nothing is left, and what is left there is refused.
-  abbrev pub whole_text : List ℕ → Result Form Fault
-  whole_text text = ended designs (code Nothing ∷ []) (design_by_grammar (tokens text 0))
+  -- The lexemes of a whole text: after the design nothing is left, and what is left there is refused.
+  abbrev pub meaning_of_tokens : List ℕ → Result DesignTree TokenRefusal
+  meaning_of_tokens text = read_to_end designs (code Nothing ∷ []) (design_by_grammar (tokens text 0))
 
-  -- A text that is too long means that refusal, and each other one what its lexemes mean, told by line and column.
-  unfoldable pub design_within : List ℕ → Result Form Refusal
-  design_within text = if nat_lt longest_text (length text) then Err too_long else told_at text (whole_text text)
+  -- A text that is too long means that refusal, and each other one what its lexemes mean, by line and column.
+  unfoldable pub design_of_depth : List ℕ → Result DesignTree Refusal
+  design_of_depth text = if nat_lt LONGEST_DESIGN (length text) then Err too_long else meaning_in text (meaning_of_tokens text)
 
   -- The text is one of the grammar within its limits, and the design is what its tree says, offsets included.
-  pub record IsTextWithin (text : List ℕ) (form : Form) : Type 0 where
+  pub record IsDesignTextOfDepth (text : List ℕ) (design : DesignTree) : Type 0 where
     pub tree : Tree Token
-    pub is_text : IsText designs no_judge (ExpressionTree levels) design_rule (tokens text 0) tree
-    pub says : form ≡ form_of 16 levels tree
+    pub is_text : IsText designs no_check (ExpressionTree depth) design_rule (tokens text 0) tree
+    pub says : design ≡ design_of_tree depth tree
 
   -- The text stops to be a design: at the first token with which no text of the grammar goes on, by all the kinds that
   -- may stand there, or at which a limit of types or expressions is broken.
-  pub record StopsWithin (text : List ℕ) (refusal : Refusal) : Type 0 where
-    pub fault : Fault
-    pub stops : StopsAt designs no_judge (ExpressionBreak levels) design_rule (tokens text 0) fault
-    pub is_told : refusal ≡ refusal_at text fault
+  pub record StopsToBeDesignOfDepth (text : List ℕ) (refusal : Refusal) : Type 0 where
+    pub token_refusal : TokenRefusal
+    pub stops : StopsAt designs no_check (ExpressionBreak depth) design_rule (tokens text 0) token_refusal
+    pub is_reported : refusal ≡ refusal_at text token_refusal
 
--- what a design text means, with at most 64 expressions open at a place
-abbrev pub design_of : List ℕ → Result Form Refusal
-design_of = design_within 64
+-- what a design text means
+abbrev pub design_of : List ℕ → Result DesignTree Refusal
+design_of = design_of_depth OPEN_EXPRESSIONS
 
-abbrev pub IsDesignText : List ℕ → Form → Type 0
-IsDesignText = IsTextWithin 64
+-- this is the design of the text
+abbrev pub IsDesignText : List ℕ → DesignTree → Type 0
+IsDesignText = IsDesignTextOfDepth OPEN_EXPRESSIONS
 
+-- with this refusal the text stops to be a design
 abbrev pub StopsToBeDesign : List ℕ → Refusal → Type 0
-StopsToBeDesign = StopsWithin 64
-
--- the numbers with which a design text is refused: at a token or at the end, and 210 for its length
-abbrev pub token_numbers : List ℕ
-token_numbers = 101 ∷ 102 ∷ 103 ∷ 201 ∷ 202 ∷ 203 ∷ 205 ∷ 206 ∷ 207 ∷ 208 ∷ 209 ∷ []
-
-abbrev pub IsDesignNumber : ℕ → Type 0
-IsDesignNumber number = Contains (210 ∷ token_numbers) number
+StopsToBeDesign = StopsToBeDesignOfDepth OPEN_EXPRESSIONS
 
 -- No text has two designs.
 abbrev pub OneDesign : Type 0
-OneDesign = (text : List ℕ) (a b : Form) → IsDesignText text a → IsDesignText text b → a ≡ b
+OneDesign = (text : List ℕ) (a b : DesignTree) → IsDesignText text a → IsDesignText text b → a ≡ b

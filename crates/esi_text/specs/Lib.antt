@@ -1,9 +1,8 @@
-pub mod Stimulus
-pub mod StimulusLaws
-pub mod Limits
-pub mod TypesIn
-pub mod TypesGood
-pub mod Designs
 pub mod DesignAnswers
 pub mod DesignNumbers
-pub mod DesignLaws
+pub mod Designs
+pub mod MeaningLaws
+pub mod ReaderLaws
+pub mod RuleNumbers
+pub mod TypesGood
+pub mod TypesIn

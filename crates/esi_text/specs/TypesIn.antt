@@ -9,15 +9,14 @@ use Rattle.design_tree.specs.declared.statements.Operation.{Operation}
 use Rattle.design_tree.specs.declared.statements.Operation.TheVariants as O
 use Rattle.design_tree.specs.declared.statements.Statement.{Statement}
 use Rattle.design_tree.specs.declared.statements.Statement.TheVariants as S
-use Rattle.design_tree.specs.declared.items.Member.{Member}
-use Rattle.design_tree.specs.declared.items.ModulePort.{ModulePort}
-use Rattle.design_tree.specs.declared.items.Module.{Module}
-use Rattle.design_tree.specs.declared.items.Item.{Item}
-use Rattle.design_tree.specs.declared.items.Item.TheVariants as I
-use Rattle.design_tree.specs.declared.design.Body.{Body}
-use Rattle.design_tree.specs.declared.design.Body.TheVariants as P
-use Rattle.design_tree.specs.declared.design.Form.{Form}
-use Rattle.design_tree.specs.declared.design.Form.TheVariants as F
+use Rattle.design_tree.specs.declared.declarations.Member.{Member}
+use Rattle.design_tree.specs.declared.declarations.ModulePort.{ModulePort}
+use Rattle.design_tree.specs.declared.declarations.Declaration.{Declaration}
+use Rattle.design_tree.specs.declared.declarations.Declaration.TheVariants as I
+use Rattle.design_tree.specs.declared.top.TopItem.{TopItem}
+use Rattle.design_tree.specs.declared.top.TopItem.TheVariants as P
+use Rattle.design_tree.specs.declared.design.DesignTree.{DesignTree}
+use Rattle.design_tree.specs.declared.design.DesignTree.TheVariants as F
 
 -- ---- expressions: `lit`, `make` and `cast` name a type
 
@@ -31,7 +30,7 @@ types_step (Expression-F.Zext at width of) = of
 types_step (Expression-F.Slice at high low of) = of
 types_step (Expression-F.Not at of) = of
 types_step (Expression-F.Binary at operator left right) = left ++ right
-types_step (Expression-F.Mux at condition one zero) = condition ++ one ++ zero
+types_step (Expression-F.Mux at condition when_one when_zero) = condition ++ when_one ++ when_zero
 
 abbrev pub expression_types : Expression → List EsiType
 expression_types = fold-Expression (List EsiType) types_step
@@ -47,7 +46,7 @@ abbrev pub statement_types : Statement → List EsiType
 statement_types (S.Channels at names operation) = operation_types operation
 statement_types other = []
 
--- ---- items: the members of a bundle and the ports of a module have types
+-- ---- declarations: the members of a bundle and the ports of a module have types
 
 abbrev pub member_type : Member → EsiType
 member_type m = m.ty
@@ -55,17 +54,17 @@ member_type m = m.ty
 abbrev pub port_type : ModulePort → EsiType
 port_type p = p.ty
 
-abbrev pub item_types : Item → List EsiType
-item_types (I.Bundle b) = map member_type b.members
-item_types (I.Service s) = []
-item_types (I.Module m) = map port_type m.ports ++ flat_map statement_types m.body
+abbrev pub declaration_types : Declaration → List EsiType
+declaration_types (I.Bundle b) = map member_type b.members
+declaration_types (I.Service s) = []
+declaration_types (I.Module m) = map port_type m.ports ++ flat_map statement_types m.body
 
 -- ---- designs
 
-abbrev pub body_types : Body → List EsiType
-body_types (P.Statement statement) = statement_types statement
-body_types (P.Implement service) = []
+abbrev pub top_item_types : TopItem → List EsiType
+top_item_types (P.Statement statement) = statement_types statement
+top_item_types (P.Implement service) = []
 
-abbrev pub types_in : Form → List EsiType
+abbrev pub types_in : DesignTree → List EsiType
 types_in (F.Pipe pipe) = pipe.ty ∷ []
-types_in (F.Parts items top) = flat_map item_types items ++ flat_map body_types top.body
+types_in (F.Modules declarations top) = flat_map declaration_types declarations ++ flat_map top_item_types top.body

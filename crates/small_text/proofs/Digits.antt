@@ -9,9 +9,9 @@ use Rattle.small_text.specs.Numbers.{number_of}
 use Rattle.small_text.specs.Hexadecimal.{hex_digit, hex_of, hex_value, octet_of, with_octet, octets_of_digits, octets_of}
 
 -- octets that were read already, before those that are left
-abbrev pub behind : List ℕ → Option (List ℕ) → Option (List ℕ)
-behind front None = None
-behind front (Some rest) = Some (front ++ rest)
+abbrev pub after : List ℕ → Option (List ℕ) → Option (List ℕ)
+after front None = None
+after front (Some rest) = Some (front ++ rest)
 
 pub hex_of-append : (xs ys : List ℕ) → hex_of (xs ++ ys) ≡ hex_of xs ++ hex_of ys
 unfolding hex_of
@@ -34,28 +34,28 @@ octets_front [] h = absurd (omega arith)
 octets_front (one ∷ []) h = absurd (omega arith)
 octets_front (high ∷ low ∷ digits) h = refl
 
-behind_step : (front : List ℕ) (octet : ℕ) (rest : Option (List ℕ)) → behind (front ++ octet ∷ []) rest ≡ behind front (with_octet (Some octet) rest)
-behind_step front octet None = refl
-behind_step front octet (Some rest) = rw append_assoc refl
+after_step : (front : List ℕ) (octet : ℕ) (rest : Option (List ℕ)) → after (front ++ octet ∷ []) rest ≡ after front (with_octet (Some octet) rest)
+after_step front octet None = refl
+after_step front octet (Some rest) = rw append_assoc refl
 
-pub octets_step : (front digits all others : List ℕ) (octet : ℕ) → 2 ≤ length digits → others ≡ drop 2 digits → Some octet ≡ octet_of (hex_value (get_or digits 0 0)) (hex_value (get_or digits 1 0)) → behind front (octets_of_digits digits) ≡ octets_of_digits all → behind (front ++ octet ∷ []) (octets_of_digits others) ≡ octets_of_digits all
+pub octets_step : (front digits all others : List ℕ) (octet : ℕ) → 2 ≤ length digits → others ≡ drop 2 digits → Some octet ≡ octet_of (hex_value (get_or digits 0 0)) (hex_value (get_or digits 1 0)) → after front (octets_of_digits digits) ≡ octets_of_digits all → after (front ++ octet ∷ []) (octets_of_digits others) ≡ octets_of_digits all
 octets_step front digits all others octet long rest is before =
-    rw rest (behind_step front octet (octets_of_digits (drop 2 digits)) ∙ rw is (rw (sym (octets_front digits long)) before))
+    rw rest (after_step front octet (octets_of_digits (drop 2 digits)) ∙ rw is (rw (sym (octets_front digits long)) before))
 
 octets_some : (part : List ℕ) → 0 < length part → octets_of part ≡ octets_of_digits part
 octets_some [] h = absurd (omega arith)
 octets_some (digit ∷ digits) h = refl
 
-pub octets_stop : (front digits part : List ℕ) → 0 < length part → 2 ≤ length digits → None ≡ octet_of (hex_value (get_or digits 0 0)) (hex_value (get_or digits 1 0)) → behind front (octets_of_digits digits) ≡ octets_of_digits part → None ≡ octets_of part
+pub octets_stop : (front digits part : List ℕ) → 0 < length part → 2 ≤ length digits → None ≡ octet_of (hex_value (get_or digits 0 0)) (hex_value (get_or digits 1 0)) → after front (octets_of_digits digits) ≡ octets_of_digits part → None ≡ octets_of part
 octets_stop front digits part some long is before =
     sym (octets_some part some ∙ sym before ∙ rw (octets_front digits long, sym is) refl)
 
-pub octets_end : (front digits part : List ℕ) → 0 < length part → length digits ≡ 0 → behind front (octets_of_digits digits) ≡ octets_of_digits part → Some front ≡ octets_of part
+pub octets_end : (front digits part : List ℕ) → 0 < length part → length digits ≡ 0 → after front (octets_of_digits digits) ≡ octets_of_digits part → Some front ≡ octets_of part
 unfolding octets_of_digits
 octets_end front [] part some none before = sym (octets_some part some ∙ sym before ∙ rw append-nil refl)
 octets_end front (digit ∷ digits) part some none before = absurd (omega arith)
 
-pub octets_odd : (front digits part : List ℕ) → 0 < length part → length digits ≡ 1 → behind front (octets_of_digits digits) ≡ octets_of_digits part → None ≡ octets_of part
+pub octets_odd : (front digits part : List ℕ) → 0 < length part → length digits ≡ 1 → after front (octets_of_digits digits) ≡ octets_of_digits part → None ≡ octets_of part
 unfolding octets_of_digits
 octets_odd front [] part some none before = absurd (omega arith)
 octets_odd front (digit ∷ []) part some none before = sym (octets_some part some ∙ sym before)

@@ -3,7 +3,7 @@ use Rattle.std.proofs.Common.{◌≡◌, ◌+◌, ◌≤◌, ◌==◌, ◌&&◌,
 use Rattle.std.specs.Prelude.{All, count_by}
 use Rattle.std.specs.List.{prefix_len, list_all}
 use Rattle.std.specs.Option.{option_to_list}
-use Rattle.std.proofs.lemmas.Bool.{eqb-true}
+use Rattle.std.proofs.lemmas.Bool.{cases_Bool, eqb-true}
 use Rattle.std.proofs.lemmas.List.{reverse-append, length-reverse, take-append-drop}
 use Rattle.std.proofs.lemmas.List.Folds.{list_all-append}
 use Rattle.std.proofs.lemmas.List.Sums.{sum_by-append, sum_by-cons}
@@ -12,7 +12,7 @@ use Rattle.std.proofs.Math.Seq.{take-append_seam, drop-append_seam}
 use Rattle.esi_base.specs.Places.{place_at}
 use Rattle.small_text.specs.Lines.{Part, place_of, lines, parts_from, is_comment, line_of_parts, line_of, numbered_from}
 use Rattle.small_text.specs.LineLaws.{IsLongestRun, StandsIn, LineStandsIn, PlacesAreRight}
-use Rattle.small_text.proofs.Cutting.{tells, no_end, lines_cut, one_more}
+use Rattle.small_text.proofs.Cutting.{no_end, lines_cut, one_more}
 use Rattle.small_text.proofs.PartRuns.{runs}
 
 abbrev is_end : ℕ → Bool
@@ -22,7 +22,7 @@ is_end b = b == 10
 abbrev HasNoEnd : List ℕ → Type 0
 HasNoEnd octets = list_all no_end octets ≡ true
 
--- octets behind which a line begins
+-- octets after which a line begins
 abbrev EndsLine : List ℕ → Type 0
 EndsLine done = (done ≡ []) ⊎ ((before : List ℕ) × (done ≡ before ++ 10 ∷ []))
 
@@ -44,7 +44,7 @@ and_true false b ha hb = ha
 no_end_count : (octets : List ℕ) → HasNoEnd octets → count_by is_end octets ≡ 0
 no_end_count [] h = refl
 no_end_count (octet ∷ octets) h =
-    elim (tells (octet == 10)) [
+    elim (cases_Bool (octet == 10)) [
       | inl e ↦ absurd (let g = rw e at h in (cc))
       | inr e ↦ sum_by-cons (λ x. cond (is_end x) 1 0) octet octets ∙ rw e (let i : count_by is_end octets ≡ 0 = no_end_count octets (rw e at h) in omega arith)
     ]
@@ -68,7 +68,7 @@ line_before : (done : List ℕ) → EndsLine done → prefix_len no_end (reverse
 line_before done (inl none) = rw none refl
 line_before done (inr h) = rw (h.1, reverse-append h.0 (10 ∷ [])) refl
 
--- the place behind whole lines and octets of the next one
+-- the place after whole lines and octets of the next one
 place_is : (all done before rest : List ℕ) (number : ℕ) (part : Part) → all ≡ (done ++ before) ++ rest → EndsLine done → HasNoEnd before → number ≡ 1 + count_by is_end done → part.column ≡ 1 + length before → place_at all (length (done ++ before)) ≡ place_of number part
 place_is all done before rest number part is ends clean lines_are column =
     let front : take (length (done ++ before)) all ≡ done ++ before = rw is (take-append_seam (done ++ before) rest) in
@@ -78,13 +78,13 @@ place_is all done before rest number part is ends clean lines_are column =
 
 part_stands : (all done line rest : List ℕ) (number : ℕ) → all ≡ done ++ (line ++ rest) → EndsLine done → HasNoEnd line → number ≡ 1 + count_by is_end done → (part : Part) → IsLongestRun line part → StandsIn all number part
 part_stands all done line rest number is ends clean lines_are part r =
-    let split : all ≡ (done ++ r.before) ++ (part.octets ++ (r.behind ++ rest)) = is ∙ rw (r.whole) (simp append_assoc) in
-    let free : HasNoEnd r.before = no_end_front r.before (part.octets ++ r.behind) (ap (list_all no_end) (sym r.whole) ∙ clean) in
+    let split : all ≡ (done ++ r.before) ++ (part.octets ++ (r.after ++ rest)) = is ∙ rw (r.whole) (simp append_assoc) in
+    let free : HasNoEnd r.before = no_end_front r.before (part.octets ++ r.after) (ap (list_all no_end) (sym r.whole) ∙ clean) in
     record {
-      at = length (done ++ r.before);
-      within = rw split (omega (arith, length-append (done ++ r.before) (part.octets ++ (r.behind ++ rest)), length-append part.octets (r.behind ++ rest)));
-      octets = rw (split, drop-append_seam (done ++ r.before) (part.octets ++ (r.behind ++ rest))) (take-append_seam part.octets (r.behind ++ rest));
-      place = place_is all done r.before (part.octets ++ (r.behind ++ rest)) number part split ends free lines_are r.column;
+      offset = length (done ++ r.before);
+      within = rw split (omega (arith, length-append (done ++ r.before) (part.octets ++ (r.after ++ rest)), length-append part.octets (r.after ++ rest)));
+      octets = rw (split, drop-append_seam (done ++ r.before) (part.octets ++ (r.after ++ rest))) (take-append_seam part.octets (r.after ++ rest));
+      place = place_is all done r.before (part.octets ++ (r.after ++ rest)) number part split ends free lines_are r.column;
     }
 
 parts_stand : (all : List ℕ) (number : ℕ) (parts : List Part) → All (StandsIn all number) parts → All (LineStandsIn all) (option_to_list (line_of_parts number parts))
@@ -93,7 +93,7 @@ parts_stand all number (word ∷ others) h = All-cons (LineStandsIn all) (record
 
 line_stands : (all done line rest : List ℕ) (number : ℕ) → all ≡ done ++ (line ++ rest) → EndsLine done → HasNoEnd line → number ≡ 1 + count_by is_end done → All (LineStandsIn all) (option_to_list (line_of number line))
 line_stands all done line rest number is ends clean lines_are =
-    elim (tells (is_comment line)) [
+    elim (cases_Bool (is_comment line)) [
       | inl e ↦ rw e (All-nil (LineStandsIn all))
       | inr e ↦ rw e (parts_stand all number (parts_from 1 line) (All-weaker (IsLongestRun line) (StandsIn all number) (part_stands all done line rest number is ends clean lines_are) (parts_from 1 line) (runs line)))
     ]
@@ -102,7 +102,7 @@ line_stands all done line rest number is ends clean lines_are =
 no_end_before : (text : List ℕ) → HasNoEnd (take (prefix_len no_end text) text)
 no_end_before [] = refl
 no_end_before (octet ∷ text) =
-    elim (tells (octet == 10)) [
+    elim (cases_Bool (octet == 10)) [
       | inl e ↦ rw e refl
       | inr e ↦ rw (e, one_more (prefix_len no_end text)) (rw e (no_end_before text))
     ]
@@ -110,7 +110,7 @@ no_end_before (octet ∷ text) =
 end_after : (text : List ℕ) (octet : ℕ) (rest : List ℕ) → drop (prefix_len no_end text) text ≡ octet ∷ rest → octet ≡ 10
 end_after [] octet rest = λ h. (cc)
 end_after (first ∷ text) octet rest =
-    elim (tells (first == 10)) [
+    elim (cases_Bool (first == 10)) [
       | inl e ↦ rw e (λ h. (let f = eqb-true first 10 e in cc))
       | inr e ↦ rw (e, one_more (prefix_len no_end text)) (end_after text octet rest)
     ]
@@ -123,17 +123,17 @@ numbered_cut : (number : ℕ) (line : List ℕ) (rest : List (List ℕ)) → num
 unfolding numbered_from
 numbered_cut number line rest = refl
 
--- the lines behind the first one, where the shorter texts are known
-behind_stand : (fuel : ℕ) (all done text front tail : List ℕ) (number : ℕ) → length text ≤ suc fuel → all ≡ done ++ text → text ≡ front ++ tail → ((octet : ℕ) (rest : List ℕ) → tail ≡ octet ∷ rest → octet ≡ 10) → HasNoEnd front → number ≡ 1 + count_by is_end done → ((longer shorter : List ℕ) (next : ℕ) → length shorter ≤ fuel → all ≡ longer ++ shorter → EndsLine longer → next ≡ 1 + count_by is_end longer → All (LineStandsIn all) (numbered_from next (lines shorter))) → All (LineStandsIn all) (numbered_from (number + 1) (lines (drop 1 tail)))
-behind_stand fuel all done text front [] number short is cut ending clean lines_are known = none_left all (number + 1)
-behind_stand fuel all done text front (octet ∷ rest) number short is cut ending clean lines_are known =
+-- the lines after the first one, where the shorter texts are known
+after_stand : (fuel : ℕ) (all done text front tail : List ℕ) (number : ℕ) → length text ≤ suc fuel → all ≡ done ++ text → text ≡ front ++ tail → ((octet : ℕ) (rest : List ℕ) → tail ≡ octet ∷ rest → octet ≡ 10) → HasNoEnd front → number ≡ 1 + count_by is_end done → ((longer shorter : List ℕ) (next : ℕ) → length shorter ≤ fuel → all ≡ longer ++ shorter → EndsLine longer → next ≡ 1 + count_by is_end longer → All (LineStandsIn all) (numbered_from next (lines shorter))) → All (LineStandsIn all) (numbered_from (number + 1) (lines (drop 1 tail)))
+after_stand fuel all done text front [] number short is cut ending clean lines_are known = none_left all (number + 1)
+after_stand fuel all done text front (octet ∷ rest) number short is cut ending clean lines_are known =
     let ten : octet ≡ 10 = ending octet rest refl in
     let here : all ≡ ((done ++ front) ++ 10 ∷ []) ++ rest = is ∙ rw (cut, ten) (simp append_assoc) in
     let count : number + 1 ≡ 1 + count_by is_end ((done ++ front) ++ 10 ∷ []) = omega (arith, sum_by-append (λ x. cond (is_end x) 1 0) (done ++ front) (10 ∷ []), sum_by-append (λ x. cond (is_end x) 1 0) done front, no_end_count front clean) in
     let less : length rest ≤ fuel = omega (arith, ap (λ (l : List ℕ). length l) cut, length-append front (octet ∷ rest)) in
     known ((done ++ front) ++ 10 ∷ []) rest (number + 1) less here (inr (done ++ front, refl)) count
 
--- the lines behind a line end, for a text whose lines are cut
+-- the lines after a line end, for a text whose lines are cut
 lines_stand : (fuel : ℕ) (all done text : List ℕ) (number : ℕ) → length text ≤ fuel → all ≡ done ++ text → EndsLine done → number ≡ 1 + count_by is_end done → All (LineStandsIn all) (numbered_from number (lines text))
 lines_stand fuel all done [] number short is ends lines_are = none_left all number
 lines_stand zero all done (octet ∷ text) number short is ends lines_are = absurd (omega arith)
@@ -142,9 +142,9 @@ lines_stand (suc fuel) all done (octet ∷ text) number short is ends lines_are 
     let whole : front ++ drop (prefix_len no_end (octet ∷ text)) (octet ∷ text) ≡ octet ∷ text = take-append-drop (prefix_len no_end (octet ∷ text)) (octet ∷ text) in
     let clean : HasNoEnd front = no_end_before (octet ∷ text) in
     let here : All (LineStandsIn all) (option_to_list (line_of number front)) = line_stands all done front (drop (prefix_len no_end (octet ∷ text)) (octet ∷ text)) number (is ∙ ap (λ (l : List ℕ). done ++ l) (sym whole)) ends clean lines_are in
-    let behind : All (LineStandsIn all) (numbered_from (number + 1) (lines (drop 1 (drop (prefix_len no_end (octet ∷ text)) (octet ∷ text))))) =
-    behind_stand fuel all done (octet ∷ text) front (drop (prefix_len no_end (octet ∷ text)) (octet ∷ text)) number short is (sym whole) (end_after (octet ∷ text)) clean lines_are (λ d t n. lines_stand fuel all d t n) in
-    rw (lines_cut octet text, numbered_cut number front (lines (drop 1 (drop (prefix_len no_end (octet ∷ text)) (octet ∷ text))))) (All-append (LineStandsIn all) (option_to_list (line_of number front)) (numbered_from (number + 1) (lines (drop 1 (drop (prefix_len no_end (octet ∷ text)) (octet ∷ text))))) here behind)
+    let after : All (LineStandsIn all) (numbered_from (number + 1) (lines (drop 1 (drop (prefix_len no_end (octet ∷ text)) (octet ∷ text))))) =
+    after_stand fuel all done (octet ∷ text) front (drop (prefix_len no_end (octet ∷ text)) (octet ∷ text)) number short is (sym whole) (end_after (octet ∷ text)) clean lines_are (λ d t n. lines_stand fuel all d t n) in
+    rw (lines_cut octet text, numbered_cut number front (lines (drop 1 (drop (prefix_len no_end (octet ∷ text)) (octet ∷ text))))) (All-append (LineStandsIn all) (option_to_list (line_of number front)) (numbered_from (number + 1) (lines (drop 1 (drop (prefix_len no_end (octet ∷ text)) (octet ∷ text))))) here after)
 
 pub places_are_right : PlacesAreRight
 places_are_right text = lines_stand (length text) text [] text 1 (omega arith) refl (inl refl) (omega arith)

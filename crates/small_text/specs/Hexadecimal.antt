@@ -22,7 +22,7 @@ octet_of (Some high) (Some low) = Some (16 * high + low)
 octet_of (Some _) None = None
 octet_of None _ = None
 
--- An octet goes in front of the octets behind it, where both can be read.
+-- An octet goes in front of the octets after it, where both can be read.
 abbrev pub with_octet : Option ℕ → Option (List ℕ) → Option (List ℕ)
 with_octet (Some octet) (Some octets) = Some (octet ∷ octets)
 with_octet (Some _) None = None

@@ -44,7 +44,7 @@ unfolding hex_of
 printed_again [] h = absurd (h.some refl)
 printed_again (octet ∷ octets) h = digits_again (octet ∷ octets) h.small
 
--- an octet and octets behind it were read
+-- an octet and octets after it were read
 record FrontRead (octet : Option ℕ) (rest : Option (List ℕ)) (octets : List ℕ) : Type 0 where
   first : ℕ
   others : List ℕ

@@ -8,7 +8,7 @@ pub record Part : Type 0 where
   pub column : ℕ
   pub octets : List ℕ
 
--- A line that counts has its number, its first part and the parts behind that one.
+-- A line that counts has its number, its first part and the parts after that one.
 pub record Line : Type 0 where
   pub number : ℕ
   pub word : Part
@@ -18,7 +18,7 @@ pub record Line : Type 0 where
 abbrev pub place_of : ℕ → Part → Place
 place_of number part = record { line = number; column = part.column }
 
--- An octet that is no line end stands at the front of the line that goes on behind it.
+-- An octet that is no line end stands at the front of the line that goes on after it.
 abbrev pub at_front : ℕ → List (List ℕ) → List (List ℕ)
 at_front octet [] = (octet ∷ []) ∷ []
 at_front octet (line ∷ others) = (octet ∷ line) ∷ others
@@ -28,10 +28,10 @@ unfoldable pub lines : List ℕ → List (List ℕ)
 lines [] = []
 lines (octet ∷ text) = if octet == 10 then [] ∷ lines text else at_front octet (lines text)
 
--- An octet that is no space joins the part that begins right behind it, and else is a part of its own.
-abbrev pub joined : ℕ → ℕ → List Part → List Part
-joined column octet [] = record { column = column; octets = octet ∷ [] } ∷ []
-joined column octet (part ∷ others) =
+-- An octet that is no space joins the part that begins right after it, and else is a part of its own.
+abbrev pub parts_with_octet : ℕ → ℕ → List Part → List Part
+parts_with_octet column octet [] = record { column = column; octets = octet ∷ [] } ∷ []
+parts_with_octet column octet (part ∷ others) =
     if part.column == column + 1
     then record { column = column; octets = octet ∷ part.octets } ∷ others
     else record { column = column; octets = octet ∷ [] } ∷ part ∷ others
@@ -40,7 +40,7 @@ joined column octet (part ∷ others) =
 unfoldable pub parts_from : ℕ → List ℕ → List Part
 parts_from column [] = []
 parts_from column (octet ∷ rest) =
-    if octet == 32 then parts_from (column + 1) rest else joined column octet (parts_from (column + 1) rest)
+    if octet == 32 then parts_from (column + 1) rest else parts_with_octet column octet (parts_from (column + 1) rest)
 
 -- A line is a comment where its first octet is '#'.
 abbrev pub is_comment : List ℕ → Bool
@@ -81,7 +81,7 @@ pub parts_examples :
 unfolding parts_from
 parts_examples = (refl, refl, refl)
 
--- A comment begins with '#' in its first column; behind a space '#' is a part.
+-- A comment begins with '#' in its first column; after a space '#' is a part.
 pub counting_examples :
     (counting_lines (codes "# a") ≡ [])
     × (counting_lines (10 ∷ codes " # a")

@@ -7,7 +7,7 @@ use std::alloc::Global;
 
 /// The octets that a part stands for: two lower-case hexadecimal digits for each, and at least one
 /// octet. None exactly where the part is no such row of digits.
-pub fn octets(alloc: Global, part: &[u8]) -> Result<Option<Octets>, NoMemory>
+pub fn read_octets(alloc: Global, part: &[u8]) -> Result<Option<Octets>, NoMemory>
     ensures { IfOk result (λ octets. octets ≡ octets_of part.now) }
 {
     if part.is_empty() {
@@ -19,7 +19,7 @@ pub fn octets(alloc: Global, part: &[u8]) -> Result<Option<Octets>, NoMemory>
         let (_, others) = rest.split_at(2);
         match octet_of(rest[0], rest[1]) {
             None => return Ok(None),
-            Some(octet) => octets.push(octet).map_err(|_| NoMemory)?,
+            Some(octet) => octets.add(octet)?,
         }
         rest = others;
     }
@@ -30,8 +30,8 @@ pub fn octets(alloc: Global, part: &[u8]) -> Result<Option<Octets>, NoMemory>
     }
 }
 
-/// Adds octets at the end of a text, two lower-case hexadecimal digits for each. For want of memory,
-/// and for no other cause, it fails and leaves the text as it was.
+/// Adds octets at the end of a text, two lower-case hexadecimal digits for each. It fails only when it
+/// runs out of memory, and then leaves the text as it was.
 pub fn push_hex(out: &mut Octets, octets: &[u8]) -> Result<(), NoMemory>
     ensures pushed { OnOk result (out.new ≡ out.old ++ hex_of octets.now) }
     ensures unchanged { OnErr result (out.new ≡ out.old) }

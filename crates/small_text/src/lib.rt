@@ -6,9 +6,6 @@ pub mod laws;
 pub mod numbers;
 pub mod text;
 
-pub use hexadecimal::{octets, push_hex};
-pub use numbers::number;
-pub use text::{Line, Lines, Part};
-
-#[cfg(test)]
-mod tests;
+pub use hexadecimal::{push_hex, read_octets};
+pub use numbers::read_number;
+pub use text::{LONGEST_TEXT, Line, Lines, Part};

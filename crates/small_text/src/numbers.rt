@@ -7,7 +7,7 @@ ghost use Rattle.small_text.specs.Numbers.{has_leading_zero as begins_with_zero,
 
 /// The number that a part stands for: decimal digits without sign or leading zeros, and at most the
 /// bound. None exactly where the part is no such number.
-pub fn number(part: &[u8], bound: u64) -> Option<u64>
+pub fn read_number(part: &[u8], bound: u64) -> Option<u64>
     ensures { result ≡ number_of bound part.now }
 {
     if !is_decimal(part) {
@@ -20,7 +20,7 @@ pub fn number(part: &[u8], bound: u64) -> Option<u64>
     if number <= bound { Some(number) } else { None }
 }
 
-/// A number with one more digit behind its own, where that is below 2^64.
+/// A number with one more digit after its own, where that is below 2^64.
 fn with_digit(number: u64, digit: u8) -> Option<u64>
     requires { IsTrue (is_ascii_digit digit) }
     ensures { SomeIff result

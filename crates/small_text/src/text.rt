@@ -6,6 +6,12 @@ ghost use Rattle.small_text.specs.Lines.{lines, line_of as counting_line, counti
 use esi_base::Place;
 use std::marker::Model;
 
+/// The longest text of which lines are taken, in octets. It keeps lines and columns within 32 bits, so
+/// that no count of them wraps, however the text is made.
+pub const LONGEST_TEXT: usize = 67_108_864;
+
+const _: () = prove!(LONGEST_TEXT == 67108864);
+
 /// A part of a line: a longest run of octets other than space.
 #[derive(Drop)]
 pub struct Part<'a> {
@@ -21,14 +27,14 @@ impl<'a> Model for Part<'a> {
     ghost view = { λ p. record { column = p.column; octets = p.octets.now } };
 }
 
-/// The parts of what is left of a line.
+/// What is left of a line. Contracts see the parts in it.
 #[derive(Drop)]
-struct Parts<'a> {
+struct RestOfLine<'a> {
     rest: &'a [u8],
     column: u32,
 }
 
-impl<'a> Model for Parts<'a> {
+impl<'a> Model for RestOfLine<'a> {
     ghost use Rattle.std.specs.Prelude.{List, ◌+◌, ◌<◌, ◌^◌, length};
     ghost use Rattle.small_text.specs.Lines.{Part as PartOfLine, parts_from};
 
@@ -39,12 +45,12 @@ impl<'a> Model for Parts<'a> {
     ghost invariant = { λ p. p.column + length p.rest.now < 2 ^ 32 };
 }
 
-/// A line that counts: its first part, and the parts behind it, which `next_part` takes one by one.
+/// A line that counts: its first part, and the parts after it, which `next_part` takes one by one.
 #[derive(Drop)]
 pub struct Line<'a> {
     number: u32,
     word: Part<'a>,
-    others: Parts<'a>,
+    others: RestOfLine<'a>,
 }
 
 impl<'a> Model for Line<'a> {
@@ -114,7 +120,7 @@ impl<'a> Line<'a> {
         }
     }
 
-    /// Takes the next part behind the first one.
+    /// Takes the next part after the first one.
     pub fn next_part(&mut self) -> Option<Part<'a>>
         ensures next { MatchOption result
             (self.old.others ≡ [])
@@ -126,7 +132,7 @@ impl<'a> Line<'a> {
     }
 }
 
-impl<'a> Parts<'a> {
+impl<'a> RestOfLine<'a> {
     fn next_part(&mut self) -> Option<Part<'a>>
         ensures next { MatchOption result (self.old ≡ []) (λ part. self.old ≡ part ∷ self.new) }
         ensures ended { IfNone result (self.new ≡ self.old) }
@@ -146,9 +152,9 @@ impl<'a> Parts<'a> {
 }
 
 impl<'a> Lines<'a> {
-    /// The lines of a text of at most 67,108,864 octets.
+    /// The lines of a text.
     pub fn new(text: &'a [u8]) -> Lines<'a>
-        requires { length text.now ≤ 67108864 }
+        requires { length text.now ≤ LONGEST_TEXT }
         ensures { result ≡ counting_lines text.now }
     {
         Lines {
@@ -165,15 +171,15 @@ impl<'a> Lines<'a> {
         let mut rest = self.rest;
         let mut number = self.number;
         while !rest.is_empty() {
-            let (text, behind) = cut_line(rest);
+            let (text, after) = cut_line(rest);
             match line_of(text, number) {
                 Some(line) => {
-                    self.rest = behind;
+                    self.rest = after;
                     self.number = number + 1;
                     return Some(line);
                 }
                 None => {
-                    rest = behind;
+                    rest = after;
                     number += 1;
                 }
             }
@@ -184,17 +190,17 @@ impl<'a> Lines<'a> {
     }
 }
 
-/// The first line of a text that is not empty, without its LF, and what is behind it.
+/// The first line of a text that is not empty, without its LF, and what is after it.
 fn cut_line(text: &[u8]) -> (&[u8], &[u8])
     requires { 0 < length text.now }
     ensures cut { lines text.now ≡ result.0.now ∷ lines result.1.now }
     ensures line_len { length result.0.now ≤ length text.now }
-    ensures behind_len { length result.1.now < length text.now }
+    ensures after_len { length result.1.now < length text.now }
 {
     let (line, rest) = text.split_at(line_len(text));
     match rest {
         [] => (line, rest),
-        [_, behind @ ..] => (line, behind),
+        [_, after @ ..] => (line, after),
     }
 }
 
@@ -206,7 +212,7 @@ fn line_of<'a>(text: &'a [u8], number: u32) -> Option<Line<'a>>
     if text.first() == Some(&b'#') {
         return None;
     }
-    let mut others = Parts {
+    let mut others = RestOfLine {
         rest: text,
         column: 1,
     };

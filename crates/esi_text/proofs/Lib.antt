@@ -1,4 +1,0 @@
-mod LineCases
-mod LineProofs
-mod StepLemmas
-mod TextLaws

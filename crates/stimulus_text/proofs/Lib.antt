@@ -1,0 +1,4 @@
+mod FirstBreaks
+mod LineCases
+mod StepLemmas
+mod TextLaws

@@ -1,0 +1,3 @@
+pub mod LineRules
+pub mod RuleNumbers
+pub mod Stimulus
