@@ -40,6 +40,3 @@ counting_ended value len left c h =
     let same = c.same in
     let short = c.short in
     (omega (arith, one, same), omega arith)
-
-pub counting_small : (value len left : ℕ) → Counting value len left → len ≤ 10
-counting_small value len left c = let short = c.short in omega arith

@@ -1,10 +1,9 @@
-pub mod Answers
 pub mod Values
 pub mod Reading
 pub mod Messages
 pub mod Spelling
 pub mod Steps
-pub mod Shown
+pub mod Views
 pub mod SpanLaws
 pub mod RunLaws
 pub mod MessageLaws

@@ -3,8 +3,14 @@ use Rattle.std.specs.Prelude.{◌≡◌, ℕ, ◌⊎◌, Some, List, [], ◌∷�
 use Rattle.std.specs.List.{AllZip}
 use Rattle.std.specs.Str.{IsUtf8}
 use Rattle.proto_wire.specs.declared.field.WireRefusal.{WireRefusal}
-use Rattle.proto_wire.specs.AllFields.{Placed}
-use Rattle.cosim_msgs.specs.declared.within.Within.{Within}
+use Rattle.proto_wire.specs.declared.rule.WireRule.TheVariants.{NotUtf8}
+use Rattle.proto_wire.specs.Rules.{rule_number}
+use Rattle.proto_wire.specs.AllFields.{FieldEntry}
+use Rattle.cosim_msgs.specs.declared.data_message.TheConstants.{DATA}
+use Rattle.cosim_msgs.specs.declared.channel_desc.TheConstants.{NAME, DIR, TYPE}
+use Rattle.cosim_msgs.specs.declared.list_of_channels.TheConstants.{CHANNELS}
+use Rattle.cosim_msgs.specs.declared.addressed_message.TheConstants.{CHANNEL_NAME, MESSAGE}
+use Rattle.cosim_msgs.specs.declared.octet_range.OctetRange.{OctetRange}
 use Rattle.cosim_msgs.specs.declared.void_message.VoidMessage.{VoidMessage}
 use Rattle.cosim_msgs.specs.declared.data_message.Message.{Message}
 use Rattle.cosim_msgs.specs.declared.channel_desc.ChannelDesc.{ChannelDesc}
@@ -16,33 +22,33 @@ use Rattle.cosim_msgs.specs.Reading.{Encodes, Refuses}
 -- ---- names and types are UTF-8
 
 abbrev pub not_utf8 : ℕ → WireRefusal
-not_utf8 at = record { number = 705; at = at }
+not_utf8 at = record { number = rule_number NotUtf8; at = at }
 
--- 705: a field gives octets to the one of a number, and they are not UTF-8
-pub record IsNoText (octets : List ℕ) (number : ℕ) (placed : Placed) (refusal : WireRefusal) : Type 0 where
+-- a field gives octets to the one of a number, and they are not UTF-8
+pub record IsNoText (octets : List ℕ) (number : ℕ) (entry : FieldEntry) (refusal : WireRefusal) : Type 0 where
   pub text : List ℕ
-  pub given : octets_as octets number placed.field ≡ Some text
+  pub given : octets_as octets number entry.field ≡ Some text
   pub broken : IsUtf8 text → ⊥
-  pub refusal_is : refusal ≡ not_utf8 placed.at
+  pub refusal_is : refusal ≡ not_utf8 entry.at
 
 -- ---- the message without fields: whatever fields stand there say nothing, and none is faulty
 
 abbrev pub void_message : VoidMessage
 void_message = record {}
 
-abbrev pub VoidSays : VoidMessage → List Placed → VoidMessage → Type 0
+abbrev pub VoidSays : VoidMessage → List FieldEntry → VoidMessage → Type 0
 VoidSays before fields message = before ≡ message
 
-abbrev pub NoFault : Placed → WireRefusal → Type 0
-NoFault placed refusal = ⊥
+abbrev pub NoFault : FieldEntry → WireRefusal → Type 0
+NoFault entry refusal = ⊥
 
 -- ---- what a channel carries: field 1 is the data, of which the last wins
 
 abbrev pub empty_message : Message
 empty_message = record { octets = [] }
 
-abbrev pub MessageSays : List ℕ → Message → List Placed → Message → Type 0
-MessageSays octets before fields message = message.octets ≡ last_of before.octets (octet_strings octets 1 fields)
+abbrev pub MessageSays : List ℕ → Message → List FieldEntry → Message → Type 0
+MessageSays octets before fields message = message.octets ≡ last_of before.octets (octet_strings octets DATA fields)
 
 -- ---- the description of a channel: field 1 is the name, 2 the direction, 3 the type; the last of each wins, and every name and
 -- type is UTF-8, also one that does not win
@@ -50,17 +56,17 @@ MessageSays octets before fields message = message.octets ≡ last_of before.oct
 abbrev pub empty_desc : ChannelDesc
 empty_desc = record { name = []; dir = 0; ty = [] }
 
-pub record DescSays (octets : List ℕ) (before : ChannelDesc) (fields : List Placed) (desc : ChannelDesc) : Type 0 where
-  pub names : All IsUtf8 (octet_strings octets 1 fields)
-  pub name : desc.name ≡ last_of before.name (octet_strings octets 1 fields)
-  pub dir : desc.dir ≡ last_of before.dir (map low_32 (varints 2 fields))
-  pub types : All IsUtf8 (octet_strings octets 3 fields)
-  pub ty : desc.ty ≡ last_of before.ty (octet_strings octets 3 fields)
+pub record DescSays (octets : List ℕ) (before : ChannelDesc) (fields : List FieldEntry) (desc : ChannelDesc) : Type 0 where
+  pub names : All IsUtf8 (octet_strings octets NAME fields)
+  pub name : desc.name ≡ last_of before.name (octet_strings octets NAME fields)
+  pub dir : desc.dir ≡ last_of before.dir (map low_32 (varints DIR fields))
+  pub types : All IsUtf8 (octet_strings octets TYPE fields)
+  pub ty : desc.ty ≡ last_of before.ty (octet_strings octets TYPE fields)
 
-abbrev pub DescFaulty : List ℕ → Placed → WireRefusal → Type 0
-DescFaulty octets placed refusal = IsNoText octets 1 placed refusal ⊎ IsNoText octets 3 placed refusal
+abbrev pub DescFaulty : List ℕ → FieldEntry → WireRefusal → Type 0
+DescFaulty octets entry refusal = IsNoText octets NAME entry refusal ⊎ IsNoText octets TYPE entry refusal
 
--- the octets from a place on are a channel's description
+-- the octets from an offset on are a channel's description
 abbrev pub IsChannelDesc : List ℕ → ℕ → ChannelDesc → Type 0
 IsChannelDesc octets at desc = Encodes (DescSays octets) empty_desc octets at desc
 
@@ -69,14 +75,14 @@ RefusesDesc octets at refusal = Refuses (DescSays octets) (DescFaulty octets) em
 
 -- ---- the list of channels: each field 1 is a channel, in order, and the octets of each are a description of its own
 
-pub record ListSays (octets : List ℕ) (before : ListOfChannels) (fields : List Placed) (list : ListOfChannels) : Type 0 where
+pub record ListSays (octets : List ℕ) (before : ListOfChannels) (fields : List FieldEntry) (list : ListOfChannels) : Type 0 where
   pub channels : List ChannelDesc
-  pub each : AllZip (λ within desc. IsChannelDesc (take within.to octets) within.from desc) (spans 1 fields) channels
+  pub each : AllZip (λ within desc. IsChannelDesc (take within.to octets) within.from desc) (spans CHANNELS fields) channels
   pub joined : list.channels ≡ before.channels ++ channels
 
-pub record ListFaulty (octets : List ℕ) (placed : Placed) (refusal : WireRefusal) : Type 0 where
-  pub within : Within
-  pub given : span_as 1 placed.field ≡ Some within
+pub record ListFaulty (octets : List ℕ) (entry : FieldEntry) (refusal : WireRefusal) : Type 0 where
+  pub within : OctetRange
+  pub given : span_as CHANNELS entry.field ≡ Some within
   pub refused : RefusesDesc (take within.to octets) within.from refusal
 
 abbrev pub list_of : List ChannelDesc → ListOfChannels
@@ -86,25 +92,25 @@ abbrev pub empty_list : ListOfChannels
 empty_list = record { channels = [] }
 
 -- ---- a message for a channel: field 1 is the channel's name, and each field 2 a message. These are merged: each goes on with
--- what those before it said, as if their octets stood one behind another
+-- what those before it said, as if their octets stood one after another
 
-abbrev pub Merges : List ℕ → Message → List Within → Message → Type 0
+abbrev pub Merges : List ℕ → Message → List OctetRange → Message → Type 0
 Merges octets before [] message = before ≡ message
 Merges octets before (within ∷ others) message =
     (next : Message) × Encodes (MessageSays (take within.to octets)) before (take within.to octets) within.from next × Merges octets next others message
 
-pub record AddressedSays (octets : List ℕ) (before : AddressedMessage) (fields : List Placed) (addressed : AddressedMessage) : Type 0 where
-  pub names : All IsUtf8 (octet_strings octets 1 fields)
-  pub name : addressed.channel_name ≡ last_of before.channel_name (octet_strings octets 1 fields)
-  pub message : Merges octets before.message (spans 2 fields) addressed.message
+pub record AddressedSays (octets : List ℕ) (before : AddressedMessage) (fields : List FieldEntry) (addressed : AddressedMessage) : Type 0 where
+  pub names : All IsUtf8 (octet_strings octets CHANNEL_NAME fields)
+  pub name : addressed.channel_name ≡ last_of before.channel_name (octet_strings octets CHANNEL_NAME fields)
+  pub message : Merges octets before.message (spans MESSAGE fields) addressed.message
 
-pub record MessageFaulty (octets : List ℕ) (placed : Placed) (refusal : WireRefusal) : Type 0 where
-  pub within : Within
-  pub given : span_as 2 placed.field ≡ Some within
+pub record MessageFaulty (octets : List ℕ) (entry : FieldEntry) (refusal : WireRefusal) : Type 0 where
+  pub within : OctetRange
+  pub given : span_as MESSAGE entry.field ≡ Some within
   pub refused : Refuses (MessageSays (take within.to octets)) NoFault empty_message (take within.to octets) within.from refusal
 
-abbrev pub AddressedFaulty : List ℕ → Placed → WireRefusal → Type 0
-AddressedFaulty octets placed refusal = IsNoText octets 1 placed refusal ⊎ MessageFaulty octets placed refusal
+abbrev pub AddressedFaulty : List ℕ → FieldEntry → WireRefusal → Type 0
+AddressedFaulty octets entry refusal = IsNoText octets CHANNEL_NAME entry refusal ⊎ MessageFaulty octets entry refusal
 
 abbrev pub empty_addressed : AddressedMessage
 empty_addressed = record { channel_name = []; message = empty_message }

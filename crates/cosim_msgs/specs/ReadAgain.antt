@@ -6,10 +6,15 @@ use Rattle.std.proofs.Common.{arith, lit≤, sym, ◌∙◌, ap, subst, append_a
 use Rattle.std.proofs.lemmas.List.{append-nil, take_at}
 use Rattle.std.proofs.lemmas.List.Elements.{All-nil, All-cons, All-head, All-tail, filter_map-append}
 use Rattle.proto_wire.specs.Fields.{IsFieldAt}
-use Rattle.proto_wire.specs.AllFields.{Placed, AreInTurn}
+use Rattle.proto_wire.specs.AllFields.{FieldEntry, AreInTurn}
 use Rattle.proto_wire.specs.Written.{varint_of, key_of, varint_field, span_field, varint_field_at, span_field_at}
 use Rattle.proto_wire.specs.WrittenLaws.{varint_field_again, span_field_again, span_field_content}
-use Rattle.cosim_msgs.specs.declared.within.Within.{Within}
+use Rattle.proto_wire.specs.declared.limit.TheConstants.{GREATEST_FIELD_NUMBER, SPAN_TYPE}
+use Rattle.cosim_msgs.specs.declared.data_message.TheConstants.{DATA}
+use Rattle.cosim_msgs.specs.declared.channel_desc.TheConstants.{NAME, DIR, TYPE}
+use Rattle.cosim_msgs.specs.declared.list_of_channels.TheConstants.{CHANNELS}
+use Rattle.cosim_msgs.specs.declared.addressed_message.TheConstants.{CHANNEL_NAME, MESSAGE}
+use Rattle.cosim_msgs.specs.declared.octet_range.OctetRange.{OctetRange}
 use Rattle.cosim_msgs.specs.declared.data_message.Message.{Message}
 use Rattle.cosim_msgs.specs.declared.channel_desc.ChannelDesc.{ChannelDesc}
 use Rattle.cosim_msgs.specs.declared.list_of_channels.ListOfChannels.{ListOfChannels}
@@ -20,29 +25,29 @@ use Rattle.cosim_msgs.specs.Spelling.{octets_field, number_field, message_spelli
 
 -- ---- the fields that are written
 
-abbrev octets_fields : ℕ → ℕ → List ℕ → List Placed
+abbrev octets_fields : ℕ → ℕ → List ℕ → List FieldEntry
 octets_fields at number [] = []
 octets_fields at number (octet ∷ octets) = record { at = at; field = span_field_at at number (octet ∷ octets) } ∷ []
 
-abbrev number_fields : ℕ → ℕ → ℕ → List Placed
+abbrev number_fields : ℕ → ℕ → ℕ → List FieldEntry
 number_fields at number zero = []
 number_fields at number (suc n) = record { at = at; field = varint_field_at at number (suc n) } ∷ []
 
-octets_turn : (before rest : List ℕ) (number : ℕ) (octets : List ℕ) → 1 ≤ number → number ≤ 536870911 → length octets < 2 ^ 64
+octets_turn : (before rest : List ℕ) (number : ℕ) (octets : List ℕ) → 1 ≤ number → number ≤ GREATEST_FIELD_NUMBER → length octets < 2 ^ 64
     → AreInTurn (before ++ (octets_field number octets ++ rest)) (length before) (octets_fields (length before) number octets) (length (before ++ octets_field number octets))
 octets_turn before rest number [] least most fits = ap (λ xs. length xs) (sym (append-nil before))
 octets_turn before rest number (octet ∷ octets) least most fits =
     (refl, span_field_again before rest number (octet ∷ octets) least most fits, sym (length-append before (span_field number (octet ∷ octets))))
 
-number_turn : (before rest : List ℕ) (number value : ℕ) → 1 ≤ number → number ≤ 536870911 → value < 2 ^ 64
+number_turn : (before rest : List ℕ) (number value : ℕ) → 1 ≤ number → number ≤ GREATEST_FIELD_NUMBER → value < 2 ^ 64
     → AreInTurn (before ++ (number_field number value ++ rest)) (length before) (number_fields (length before) number value) (length (before ++ number_field number value))
 number_turn before rest number zero least most fits = ap (λ xs. length xs) (sym (append-nil before))
 number_turn before rest number (suc n) least most fits =
     (refl, varint_field_again before rest number (suc n) least most fits, sym (length-append before (varint_field number (suc n))))
 
-turns_joined : (octets : List ℕ) (at mid end : ℕ) (fields others : List Placed) → AreInTurn octets at fields mid → AreInTurn octets mid others end → AreInTurn octets at (fields ++ others) end
+turns_joined : (octets : List ℕ) (at mid end : ℕ) (fields others : List FieldEntry) → AreInTurn octets at fields mid → AreInTurn octets mid others end → AreInTurn octets at (fields ++ others) end
 turns_joined octets at mid end [] others first rest = subst (λ a. AreInTurn octets a others end) (sym first) rest
-turns_joined octets at mid end (placed ∷ fields) others first rest = (first.0, first.1, turns_joined octets placed.field.after mid end fields others first.2 rest)
+turns_joined octets at mid end (entry ∷ fields) others first rest = (first.0, first.1, turns_joined octets entry.field.after mid end fields others first.2 rest)
 
 -- ---- what they give
 
@@ -63,13 +68,13 @@ other_octets : (whole : List ℕ) (at n number : ℕ) (octets : List ℕ) → (n
 other_octets whole at n number [] apart = refl
 other_octets whole at n number (octet ∷ octets) apart = rw apart refl
 
-abbrev no_within : Option Within
-no_within = None
+abbrev no_range : Option OctetRange
+no_range = None
 
 abbrev no_value : Option ℕ
 no_value = None
 
-no_span : (b : Bool) → (if b then no_within else no_within) ≡ no_within
+no_span : (b : Bool) → (if b then no_range else no_range) ≡ no_range
 no_span true = refl
 no_span false = refl
 
@@ -105,7 +110,7 @@ texts_present : (octets : List ℕ) → IsUtf8 octets → All IsUtf8 (present oc
 texts_present [] h = All-nil IsUtf8
 texts_present (octet ∷ octets) h = All-cons IsUtf8 (octet ∷ octets) [] h (All-nil IsUtf8)
 
-three : {X : Type 0} (give : Placed → Option X) (a b c : List Placed) (x y z : List X) → filter_map give a ≡ x → filter_map give b ≡ y → filter_map give c ≡ z → filter_map give (a ++ (b ++ c)) ≡ x ++ (y ++ z)
+three : {X : Type 0} (give : FieldEntry → Option X) (a b c : List FieldEntry) (x y z : List X) → filter_map give a ≡ x → filter_map give b ≡ y → filter_map give c ≡ z → filter_map give (a ++ (b ++ c)) ≡ x ++ (y ++ z)
 three give a b c x y z ea eb ec = filter_map-append give a (b ++ c) ∙ rw (filter_map-append give b c, ea, eb, ec) refl
 
 -- ---- lengths
@@ -114,14 +119,14 @@ octets_shorter : (number : ℕ) (octets : List ℕ) → length octets ≤ length
 unfolding span_field
 octets_shorter number [] = omega arith
 octets_shorter number (octet ∷ octets) =
-    let a = length-append (key_of number 2) (varint_of (length (octet ∷ octets)) ++ octet ∷ octets) in
+    let a = length-append (key_of number SPAN_TYPE) (varint_of (length (octet ∷ octets)) ++ octet ∷ octets) in
     let b = length-append (varint_of (length (octet ∷ octets))) (octet ∷ octets) in
     omega (arith, a, b)
 
 span_shorter : (number : ℕ) (octets : List ℕ) → length octets ≤ length (span_field number octets)
 unfolding span_field
 span_shorter number octets =
-    let a = length-append (key_of number 2) (varint_of (length octets) ++ octets) in
+    let a = length-append (key_of number SPAN_TYPE) (varint_of (length octets) ++ octets) in
     let b = length-append (varint_of (length octets)) octets in
     omega (arith, a, b)
 
@@ -130,11 +135,11 @@ span_shorter number octets =
 pub message_again : (before : List ℕ) (message : Message) → length message.octets < 2 ^ 64 → IsDataMessage (before ++ message_spelling message) (length before) message
 message_again before message fits =
     let octets = message.octets in
-    let field = octets_field 1 octets in
-    let fields = octets_fields (length before) 1 octets in
+    let field = octets_field DATA octets in
+    let fields = octets_fields (length before) DATA octets in
     let same : before ++ (field ++ []) ≡ before ++ field = ap (λ xs. before ++ xs) (append-nil field) in
-    let turn = subst (λ w. AreInTurn w (length before) fields (length (before ++ field))) same (octets_turn before [] 1 octets (lit≤ tt) (lit≤ tt) fits) in
-    let gives = subst (λ w. octet_strings w 1 fields ≡ present octets) same (own_octets before [] 1 octets refl) in
+    let turn = subst (λ w. AreInTurn w (length before) fields (length (before ++ field))) same (octets_turn before [] DATA octets (lit≤ tt) (lit≤ tt) fits) in
+    let gives = subst (λ w. octet_strings w DATA fields ≡ present octets) same (own_octets before [] DATA octets refl) in
     record {
       fields = fields;
       whole = record { end = length (before ++ field); in_turn = turn; end_is = refl };
@@ -143,36 +148,36 @@ message_again before message fits =
 
 pub desc_again : (before : List ℕ) (desc : ChannelDesc) → length (desc_spelling desc) < 2 ^ 64 → IsWritableDesc desc → HasTexts desc → IsChannelDesc (before ++ desc_spelling desc) (length before) desc
 desc_again before desc fits writable texts =
-    let t1 = octets_field 1 desc.name in
-    let d = number_field 2 desc.dir in
-    let t3 = octets_field 3 desc.ty in
+    let t1 = octets_field NAME desc.name in
+    let d = number_field DIR desc.dir in
+    let t3 = octets_field TYPE desc.ty in
     let b1 = before ++ t1 in
     let b2 = b1 ++ d in
     let whole = before ++ (t1 ++ (d ++ t3)) in
-    let f1 = octets_fields (length before) 1 desc.name in
-    let f2 = number_fields (length b1) 2 desc.dir in
-    let f3 = octets_fields (length b2) 3 desc.ty in
+    let f1 = octets_fields (length before) NAME desc.name in
+    let f2 = number_fields (length b1) DIR desc.dir in
+    let f3 = octets_fields (length b2) TYPE desc.ty in
     let a = length-append t1 (d ++ t3) in
     let b = length-append d t3 in
-    let s1 = octets_shorter 1 desc.name in
-    let s3 = octets_shorter 3 desc.ty in
+    let s1 = octets_shorter NAME desc.name in
+    let s3 = octets_shorter TYPE desc.ty in
     let small1 : length desc.name < 2 ^ 64 = omega (arith, a, b, s1, fits) in
     let small3 : length desc.ty < 2 ^ 64 = omega (arith, a, b, s3, fits) in
     let small2 : desc.dir < 2 ^ 64 = omega (arith, writable) in
     let at2 : b1 ++ (d ++ t3) ≡ whole = append_assoc before t1 (d ++ t3) in
     let at3 : b2 ++ (t3 ++ []) ≡ whole = ap (λ xs. b2 ++ xs) (append-nil t3) ∙ append_assoc b1 d t3 ∙ at2 in
     let end : length (b2 ++ t3) ≡ length whole = ap (λ xs. length xs) (append_assoc b1 d t3 ∙ at2) in
-    let turn1 = octets_turn before (d ++ t3) 1 desc.name (lit≤ tt) (lit≤ tt) small1 in
-    let turn2 = subst (λ w. AreInTurn w (length b1) f2 (length b2)) at2 (number_turn b1 t3 2 desc.dir (lit≤ tt) (lit≤ tt) small2) in
-    let turn3 = subst (λ w. AreInTurn w (length b2) f3 (length (b2 ++ t3))) at3 (octets_turn b2 [] 3 desc.ty (lit≤ tt) (lit≤ tt) small3) in
+    let turn1 = octets_turn before (d ++ t3) NAME desc.name (lit≤ tt) (lit≤ tt) small1 in
+    let turn2 = subst (λ w. AreInTurn w (length b1) f2 (length b2)) at2 (number_turn b1 t3 DIR desc.dir (lit≤ tt) (lit≤ tt) small2) in
+    let turn3 = subst (λ w. AreInTurn w (length b2) f3 (length (b2 ++ t3))) at3 (octets_turn b2 [] TYPE desc.ty (lit≤ tt) (lit≤ tt) small3) in
     let turn = turns_joined whole (length before) (length b1) (length (b2 ++ t3)) f1 (f2 ++ f3) turn1 (turns_joined whole (length b1) (length b2) (length (b2 ++ t3)) f2 f3 turn2 turn3) in
-    let own3 = subst (λ w. octet_strings w 3 f3 ≡ present desc.ty) at3 (own_octets b2 [] 3 desc.ty refl) in
-    let names : octet_strings whole 1 (f1 ++ (f2 ++ f3)) ≡ present desc.name
-    = three (λ placed. octets_as whole 1 placed.field) f1 f2 f3 (present desc.name) [] [] (own_octets before (d ++ t3) 1 desc.name refl) (number_octets whole (length b1) 1 2 desc.dir) (other_octets whole (length b2) 1 3 desc.ty refl) ∙ append-nil (present desc.name) in
-    let types : octet_strings whole 3 (f1 ++ (f2 ++ f3)) ≡ present desc.ty
-    = three (λ placed. octets_as whole 3 placed.field) f1 f2 f3 [] [] (present desc.ty) (other_octets whole (length before) 3 1 desc.name refl) (number_octets whole (length b1) 3 2 desc.dir) own3 in
-    let dirs : varints 2 (f1 ++ (f2 ++ f3)) ≡ present_number desc.dir
-    = three (λ placed. varint_as 2 placed.field) f1 f2 f3 [] (present_number desc.dir) [] (octets_numbers (length before) 2 1 desc.name) (own_number (length b1) 2 desc.dir refl) (octets_numbers (length b2) 2 3 desc.ty) ∙ append-nil (present_number desc.dir) in
+    let own3 = subst (λ w. octet_strings w TYPE f3 ≡ present desc.ty) at3 (own_octets b2 [] TYPE desc.ty refl) in
+    let names : octet_strings whole NAME (f1 ++ (f2 ++ f3)) ≡ present desc.name
+    = three (λ entry. octets_as whole NAME entry.field) f1 f2 f3 (present desc.name) [] [] (own_octets before (d ++ t3) NAME desc.name refl) (number_octets whole (length b1) NAME DIR desc.dir) (other_octets whole (length b2) NAME TYPE desc.ty refl) ∙ append-nil (present desc.name) in
+    let types : octet_strings whole TYPE (f1 ++ (f2 ++ f3)) ≡ present desc.ty
+    = three (λ entry. octets_as whole TYPE entry.field) f1 f2 f3 [] [] (present desc.ty) (other_octets whole (length before) TYPE NAME desc.name refl) (number_octets whole (length b1) TYPE DIR desc.dir) own3 in
+    let dirs : varints DIR (f1 ++ (f2 ++ f3)) ≡ present_number desc.dir
+    = three (λ entry. varint_as DIR entry.field) f1 f2 f3 [] (present_number desc.dir) [] (octets_numbers (length before) DIR NAME desc.name) (own_number (length b1) DIR desc.dir refl) (octets_numbers (length b2) DIR TYPE desc.ty) ∙ append-nil (present_number desc.dir) in
     record {
       fields = f1 ++ (f2 ++ f3);
       whole = record { end = length (b2 ++ t3); in_turn = turn; end_is = end };
@@ -186,25 +191,25 @@ desc_again before desc fits writable texts =
     }
 
 -- what a span that was written gives is where its octets stand
-abbrev within_of : ℕ → ℕ → List ℕ → Within
-within_of at number content = record { from = at + length (key_of number 2) + length (varint_of (length content)); to = at + length (span_field number content) }
+abbrev range_of : ℕ → ℕ → List ℕ → OctetRange
+range_of at number content = record { from = at + length (key_of number SPAN_TYPE) + length (varint_of (length content)); to = at + length (span_field number content) }
 
 -- up to its end, the octets are those before it, its key and count, and its own
 record SpanEnds (before rest : List ℕ) (number : ℕ) (content : List ℕ) : Type 0 where
   front : List ℕ
-  taken : take (within_of (length before) number content).to (before ++ (span_field number content ++ rest)) ≡ front ++ content
-  from_is : (within_of (length before) number content).from ≡ length front
-  after_is : (within_of (length before) number content).to ≡ length (before ++ span_field number content)
+  taken : take (range_of (length before) number content).to (before ++ (span_field number content ++ rest)) ≡ front ++ content
+  from_is : (range_of (length before) number content).from ≡ length front
+  after_is : (range_of (length before) number content).to ≡ length (before ++ span_field number content)
 
 span_ends : (before rest : List ℕ) (number : ℕ) (content : List ℕ) → SpanEnds before rest number content
 unfolding span_field
 span_ends before rest number content =
-    let head = key_of number 2 ++ varint_of (length content) in
+    let head = key_of number SPAN_TYPE ++ varint_of (length content) in
     let whole = span_field number content in
     let to_is : length before + length whole ≡ length (before ++ whole) = sym (length-append before whole) in
-    let same : before ++ whole ≡ (before ++ head) ++ content = ap (λ xs. before ++ xs) (sym (append_assoc (key_of number 2) (varint_of (length content)) content)) ∙ sym (append_assoc before head content) in
+    let same : before ++ whole ≡ (before ++ head) ++ content = ap (λ xs. before ++ xs) (sym (append_assoc (key_of number SPAN_TYPE) (varint_of (length content)) content)) ∙ sym (append_assoc before head content) in
     let a = length-append before head in
-    let b = length-append (key_of number 2) (varint_of (length content)) in
+    let b = length-append (key_of number SPAN_TYPE) (varint_of (length content)) in
     record {
       front = before ++ head;
       taken = ap (λ xs. take (length before + length whole) xs) (sym (append_assoc before whole rest)) ∙ take_at (before ++ whole) rest (length before + length whole) (sym to_is) ∙ same;
@@ -214,15 +219,15 @@ span_ends before rest number content =
 
 -- a description within a list
 desc_within : (before rest : List ℕ) (desc : ChannelDesc) → length (desc_spelling desc) < 2 ^ 64 → IsWritableDesc desc → HasTexts desc
-    → IsChannelDesc (take (within_of (length before) 1 (desc_spelling desc)).to (before ++ (channel_field desc ++ rest))) (within_of (length before) 1 (desc_spelling desc)).from desc
+    → IsChannelDesc (take (range_of (length before) CHANNELS (desc_spelling desc)).to (before ++ (channel_field desc ++ rest))) (range_of (length before) CHANNELS (desc_spelling desc)).from desc
 desc_within before rest desc fits writable texts =
-    let ends = span_ends before rest 1 (desc_spelling desc) in
-    subst (λ w. IsChannelDesc w (within_of (length before) 1 (desc_spelling desc)).from desc) (sym ends.taken)
+    let ends = span_ends before rest CHANNELS (desc_spelling desc) in
+    subst (λ w. IsChannelDesc w (range_of (length before) CHANNELS (desc_spelling desc)).from desc) (sym ends.taken)
     (subst (λ a. IsChannelDesc (ends.front ++ desc_spelling desc) a desc) (sym ends.from_is) (desc_again ends.front desc fits writable texts))
 
--- the fields of channels in octets from a place on
+-- the fields of channels in octets from an offset on
 record ChannelFields (whole : List ℕ) (at : ℕ) (channels : List ChannelDesc) : Type 0 where
-  fields : List Placed
+  fields : List FieldEntry
   turn : AreInTurn whole at fields (length whole)
   each : AllZip (λ within desc. IsChannelDesc (take within.to whole) within.from desc) (spans 1 fields) channels
 
@@ -233,19 +238,19 @@ channel_fields before (desc ∷ channels) fits writable texts =
     let field = channel_field desc in
     let rest = channels_spelling channels in
     let both = length-append field rest in
-    let shorter = span_shorter 1 (desc_spelling desc) in
+    let shorter = span_shorter CHANNELS (desc_spelling desc) in
     let small : length (desc_spelling desc) < 2 ^ 64 = omega (arith, both, shorter, fits) in
     let small_rest : length rest < 2 ^ 64 = omega (arith, both, fits) in
     let others = channel_fields (before ++ field) channels small_rest (All-tail IsWritableDesc desc channels writable) (All-tail HasTexts desc channels texts) in
-    let behind = subst (λ w. ChannelFields w (length (before ++ field)) channels) (append_assoc before field rest) others in
-    let ends = span_ends before rest 1 (desc_spelling desc) in
-    let placed : Placed = record { at = length before; field = span_field_at (length before) 1 (desc_spelling desc) } in
-    let stands = span_field_again before rest 1 (desc_spelling desc) (lit≤ tt) (lit≤ tt) small in
-    let turn = subst (λ a. AreInTurn (before ++ (field ++ rest)) a behind.fields (length (before ++ (field ++ rest)))) (sym ends.after_is) behind.turn in
+    let following = subst (λ w. ChannelFields w (length (before ++ field)) channels) (append_assoc before field rest) others in
+    let ends = span_ends before rest CHANNELS (desc_spelling desc) in
+    let entry : FieldEntry = record { at = length before; field = span_field_at (length before) CHANNELS (desc_spelling desc) } in
+    let stands = span_field_again before rest CHANNELS (desc_spelling desc) (lit≤ tt) (lit≤ tt) small in
+    let turn = subst (λ a. AreInTurn (before ++ (field ++ rest)) a following.fields (length (before ++ (field ++ rest)))) (sym ends.after_is) following.turn in
     record {
-      fields = placed ∷ behind.fields;
+      fields = entry ∷ following.fields;
       turn = (refl, stands, turn);
-      each = (desc_within before rest desc small (All-head IsWritableDesc desc channels writable) (All-head HasTexts desc channels texts), behind.each);
+      each = (desc_within before rest desc small (All-head IsWritableDesc desc channels writable) (All-head HasTexts desc channels texts), following.each);
     }
 
 pub list_again : (list : ListOfChannels) → length (list_spelling list) < 2 ^ 64 → IsWritableList list → HasTextsList list → IsListOfChannels (list_spelling list) 0 list
@@ -259,46 +264,46 @@ list_again list fits writable texts =
 
 -- the message within an addressed one
 message_within : (before rest : List ℕ) (message : Message) → length message.octets < 2 ^ 64
-    → IsDataMessage (take (within_of (length before) 2 (message_spelling message)).to (before ++ (span_field 2 (message_spelling message) ++ rest))) (within_of (length before) 2 (message_spelling message)).from message
+    → IsDataMessage (take (range_of (length before) MESSAGE (message_spelling message)).to (before ++ (span_field MESSAGE (message_spelling message) ++ rest))) (range_of (length before) MESSAGE (message_spelling message)).from message
 message_within before rest message fits =
-    let ends = span_ends before rest 2 (message_spelling message) in
-    subst (λ w. IsDataMessage w (within_of (length before) 2 (message_spelling message)).from message) (sym ends.taken)
+    let ends = span_ends before rest MESSAGE (message_spelling message) in
+    subst (λ w. IsDataMessage w (range_of (length before) MESSAGE (message_spelling message)).from message) (sym ends.taken)
     (subst (λ a. IsDataMessage (ends.front ++ message_spelling message) a message) (sym ends.from_is) (message_again ends.front message fits))
 
 pub addressed_again : (addressed : AddressedMessage) → length (addressed_spelling addressed) < 2 ^ 64 → HasTextsAddressed addressed → IsAddressedMessage (addressed_spelling addressed) 0 addressed
 addressed_again addressed fits texts =
     let name = addressed.channel_name in
     let message = addressed.message in
-    let t1 = octets_field 1 name in
-    let t2 = span_field 2 (message_spelling message) in
+    let t1 = octets_field CHANNEL_NAME name in
+    let t2 = span_field MESSAGE (message_spelling message) in
     let whole = t1 ++ t2 in
-    let f1 = octets_fields 0 1 name in
-    let placed : Placed = record { at = length t1; field = span_field_at (length t1) 2 (message_spelling message) } in
+    let f1 = octets_fields 0 CHANNEL_NAME name in
+    let entry : FieldEntry = record { at = length t1; field = span_field_at (length t1) MESSAGE (message_spelling message) } in
     let both = length-append t1 t2 in
-    let s1 = octets_shorter 1 name in
-    let s2 = span_shorter 2 (message_spelling message) in
+    let s1 = octets_shorter CHANNEL_NAME name in
+    let s2 = span_shorter MESSAGE (message_spelling message) in
     let small1 : length name < 2 ^ 64 = omega (arith, both, s1, fits) in
-    let s3 = octets_shorter 1 message.octets in
+    let s3 = octets_shorter CHANNEL_NAME message.octets in
     let small2 : length (message_spelling message) < 2 ^ 64 = omega (arith, both, s2, fits) in
     let small3 : length message.octets < 2 ^ 64 = omega (arith, s3, small2) in
     let same : t1 ++ (t2 ++ []) ≡ whole = ap (λ xs. t1 ++ xs) (append-nil t2) in
-    let ends = span_ends t1 [] 2 (message_spelling message) in
-    let turn1 = octets_turn [] t2 1 name (lit≤ tt) (lit≤ tt) small1 in
-    let stands = subst (λ w. IsFieldAt w (length t1) placed.field) same (span_field_again t1 [] 2 (message_spelling message) (lit≤ tt) (lit≤ tt) small2) in
-    let turn2 : AreInTurn whole (length t1) (placed ∷ []) (length whole) = (refl, stands, ends.after_is) in
-    let turn = turns_joined whole 0 (length t1) (length whole) f1 (placed ∷ []) turn1 turn2 in
-    let own = own_octets [] t2 1 name refl in
-    let names : octet_strings whole 1 (f1 ++ placed ∷ []) ≡ present name
-    = filter_map-append (λ p. octets_as whole 1 p.field) f1 (placed ∷ []) ∙ ap (λ xs. xs ++ []) own ∙ append-nil (present name) in
-    let withins : spans 2 (f1 ++ placed ∷ []) ≡ within_of (length t1) 2 (message_spelling message) ∷ []
-    = filter_map-append (λ p. span_as 2 p.field) f1 (placed ∷ []) ∙ ap (λ xs. xs ++ within_of (length t1) 2 (message_spelling message) ∷ []) (octets_spans 0 2 1 name refl) in
-    let inner = subst (λ w. IsDataMessage (take (within_of (length t1) 2 (message_spelling message)).to w) (within_of (length t1) 2 (message_spelling message)).from message) same (message_within t1 [] message small3) in
+    let ends = span_ends t1 [] MESSAGE (message_spelling message) in
+    let turn1 = octets_turn [] t2 CHANNEL_NAME name (lit≤ tt) (lit≤ tt) small1 in
+    let stands = subst (λ w. IsFieldAt w (length t1) entry.field) same (span_field_again t1 [] MESSAGE (message_spelling message) (lit≤ tt) (lit≤ tt) small2) in
+    let turn2 : AreInTurn whole (length t1) (entry ∷ []) (length whole) = (refl, stands, ends.after_is) in
+    let turn = turns_joined whole 0 (length t1) (length whole) f1 (entry ∷ []) turn1 turn2 in
+    let own = own_octets [] t2 CHANNEL_NAME name refl in
+    let names : octet_strings whole CHANNEL_NAME (f1 ++ entry ∷ []) ≡ present name
+    = filter_map-append (λ p. octets_as whole CHANNEL_NAME p.field) f1 (entry ∷ []) ∙ ap (λ xs. xs ++ []) own ∙ append-nil (present name) in
+    let ranges : spans MESSAGE (f1 ++ entry ∷ []) ≡ range_of (length t1) MESSAGE (message_spelling message) ∷ []
+    = filter_map-append (λ p. span_as MESSAGE p.field) f1 (entry ∷ []) ∙ ap (λ xs. xs ++ range_of (length t1) MESSAGE (message_spelling message) ∷ []) (octets_spans 0 MESSAGE CHANNEL_NAME name refl) in
+    let inner = subst (λ w. IsDataMessage (take (range_of (length t1) MESSAGE (message_spelling message)).to w) (range_of (length t1) MESSAGE (message_spelling message)).from message) same (message_within t1 [] message small3) in
     record {
-      fields = f1 ++ placed ∷ [];
+      fields = f1 ++ entry ∷ [];
       whole = record { end = length whole; in_turn = turn; end_is = refl };
       says = record {
         names = subst (λ xs. All IsUtf8 xs) (sym names) (texts_present name texts);
         name = sym (ap (λ xs. last_of [] xs) names ∙ last_present name);
-        message = subst (λ ws. Merges whole empty_message ws message) (sym withins) (message, inner, refl);
+        message = subst (λ ws. Merges whole empty_message ws message) (sym ranges) (message, inner, refl);
       };
     }

@@ -3,6 +3,10 @@ use Rattle.std.specs.Prelude.{◌≡◌, ◌≤◌, ℕ, zero, suc, List, [], �
 use Rattle.std.specs.List.{flat_map}
 use Rattle.std.specs.Str.{IsUtf8}
 use Rattle.proto_wire.specs.Written.{groups_of, varint_of, varint_field, span_field}
+use Rattle.cosim_msgs.specs.declared.data_message.TheConstants.{DATA}
+use Rattle.cosim_msgs.specs.declared.channel_desc.TheConstants.{NAME, DIR, TYPE}
+use Rattle.cosim_msgs.specs.declared.list_of_channels.TheConstants.{CHANNELS}
+use Rattle.cosim_msgs.specs.declared.addressed_message.TheConstants.{CHANNEL_NAME, MESSAGE}
 use Rattle.cosim_msgs.specs.declared.void_message.VoidMessage.{VoidMessage}
 use Rattle.cosim_msgs.specs.declared.data_message.Message.{Message}
 use Rattle.cosim_msgs.specs.declared.channel_desc.ChannelDesc.{ChannelDesc}
@@ -22,14 +26,14 @@ abbrev pub void_spelling : VoidMessage → List ℕ
 void_spelling message = []
 
 abbrev pub message_spelling : Message → List ℕ
-message_spelling message = octets_field 1 message.octets
+message_spelling message = octets_field DATA message.octets
 
 abbrev pub desc_spelling : ChannelDesc → List ℕ
-desc_spelling desc = octets_field 1 desc.name ++ (number_field 2 desc.dir ++ octets_field 3 desc.ty)
+desc_spelling desc = octets_field NAME desc.name ++ (number_field DIR desc.dir ++ octets_field TYPE desc.ty)
 
 -- each channel is an embedded message
 abbrev pub channel_field : ChannelDesc → List ℕ
-channel_field desc = span_field 1 (desc_spelling desc)
+channel_field desc = span_field CHANNELS (desc_spelling desc)
 
 abbrev pub channels_spelling : List ChannelDesc → List ℕ
 channels_spelling channels = flat_map channel_field channels
@@ -39,7 +43,7 @@ list_spelling list = channels_spelling list.channels
 
 -- an embedded message is written also where it has no octets
 abbrev pub addressed_spelling : AddressedMessage → List ℕ
-addressed_spelling addressed = octets_field 1 addressed.channel_name ++ span_field 2 (message_spelling addressed.message)
+addressed_spelling addressed = octets_field CHANNEL_NAME addressed.channel_name ++ span_field MESSAGE (message_spelling addressed.message)
 
 -- A description may be written where its direction is one of the two.
 abbrev pub IsWritableDesc : ChannelDesc → Type 0

@@ -5,21 +5,21 @@ use Rattle.std.specs.Prelude.{◌≡◌, ◌==◌, ◌+◌, ◌%◌, ◌^◌, �
 use Rattle.proto_wire.specs.declared.field.WireField.{WireField}
 use Rattle.proto_wire.specs.declared.field.WireValue.{WireValue}
 use Rattle.proto_wire.specs.declared.field.WireValue.TheVariants.{Varint, Fixed64, Span, Fixed32}
-use Rattle.proto_wire.specs.AllFields.{Placed}
-use Rattle.cosim_msgs.specs.declared.within.Within.{Within}
+use Rattle.proto_wire.specs.AllFields.{FieldEntry}
+use Rattle.cosim_msgs.specs.declared.octet_range.OctetRange.{OctetRange}
 
--- the octets between two places
-abbrev pub octets_within : List ℕ → Within → List ℕ
-octets_within octets within = slice_range octets within.from within.to
+-- the octets between two offsets
+abbrev pub octets_in : List ℕ → OctetRange → List ℕ
+octets_in octets within = slice_range octets within.from within.to
 
--- a value as a varint, as the place of a span, and as the octets of one
+-- a value as a varint, as the offset of a span, and as the octets of one
 abbrev pub varint : WireValue → Option ℕ
 varint (Varint n) = Some n
 varint (Fixed64 n) = None
 varint (Span from to) = None
 varint (Fixed32 n) = None
 
-abbrev pub span : WireValue → Option Within
+abbrev pub span : WireValue → Option OctetRange
 span (Varint n) = None
 span (Fixed64 n) = None
 span (Span from to) = Some (record { from = from; to = to })
@@ -29,25 +29,25 @@ span (Fixed32 n) = None
 abbrev pub varint_as : ℕ → WireField → Option ℕ
 varint_as number field = if field.number == number then varint field.value else None
 
-abbrev pub span_as : ℕ → WireField → Option Within
+abbrev pub span_as : ℕ → WireField → Option OctetRange
 span_as number field = if field.number == number then span field.value else None
 
-abbrev pub option_octets : List ℕ → Option Within → Option (List ℕ)
+abbrev pub option_octets : List ℕ → Option OctetRange → Option (List ℕ)
 option_octets octets None = None
-option_octets octets (Some within) = Some (octets_within octets within)
+option_octets octets (Some within) = Some (octets_in octets within)
 
 abbrev pub octets_as : List ℕ → ℕ → WireField → Option (List ℕ)
 octets_as octets number field = option_octets octets (span_as number field)
 
 -- what all fields give to the one of a number, in order
-abbrev pub varints : ℕ → List Placed → List ℕ
-varints number fields = filter_map (λ placed. varint_as number placed.field) fields
+abbrev pub varints : ℕ → List FieldEntry → List ℕ
+varints number fields = filter_map (λ entry. varint_as number entry.field) fields
 
-abbrev pub spans : ℕ → List Placed → List Within
-spans number fields = filter_map (λ placed. span_as number placed.field) fields
+abbrev pub spans : ℕ → List FieldEntry → List OctetRange
+spans number fields = filter_map (λ entry. span_as number entry.field) fields
 
-abbrev pub octet_strings : List ℕ → ℕ → List Placed → List (List ℕ)
-octet_strings octets number fields = filter_map (λ placed. octets_as octets number placed.field) fields
+abbrev pub octet_strings : List ℕ → ℕ → List FieldEntry → List (List ℕ)
+octet_strings octets number fields = filter_map (λ entry. octets_as octets number entry.field) fields
 
 -- the last of these wins; without any it is what was there before
 abbrev pub last_of : {A : Type 0} → A → List A → A
@@ -66,6 +66,6 @@ pub values_examples :
 values_examples = (refl, refl, refl)
 
 -- a span stands within so many octets
-abbrev pub IsWithin : ℕ → Option Within → Type 0
+abbrev pub IsWithin : ℕ → Option OctetRange → Type 0
 IsWithin len None = Unit {0}
 IsWithin len (Some within) = (within.from ≤ within.to) × (within.to ≤ len)

@@ -1,7 +1,8 @@
 //! A message with the channel that it is for.
-ghost use Rattle.std.specs.Prelude.{◌≡◌, ◌≤◌, ◌++◌, length, take, OnOk};
-ghost use Rattle.cosim_msgs.specs.Answers.{Shows};
-ghost use Rattle.cosim_msgs.specs.Shown.{shown_message, message_of};
+ghost use Rattle.std.specs.Prelude.{◌≡◌, ◌++◌, length, take, OnOk};
+ghost use Rattle.std.specs.Result.{result_map_both};
+ghost use Rattle.cosim_msgs.specs.Views.{message_view, message_of};
+ghost use Rattle.cosim_msgs.specs.declared.addressed_message.TheConstants.{MESSAGE};
 ghost use Rattle.cosim_msgs.specs.Steps.{message_with};
 ghost use Rattle.cosim_msgs.specs.Values.{IsWithin, span, span_as as span_given};
 
@@ -34,12 +35,14 @@ const CHANNEL_NAME: u32 = 1;
 
 const MESSAGE: u32 = 2;
 
+const _: () = prove!(CHANNEL_NAME == 1 && MESSAGE == 2);
+
 impl<'a> BorrowedAddressed<'a> {
-    ghost use Rattle.cosim_msgs.specs.Answers.{Shows};
+    ghost use Rattle.std.specs.Result.{result_map_both};
     ghost use Rattle.cosim_msgs.specs.Messages.{empty_addressed};
     ghost use Rattle.cosim_msgs.specs.Reading.{run};
     ghost use Rattle.cosim_msgs.specs.Steps.{addressed_step};
-    ghost use Rattle.cosim_msgs.specs.Shown.{shown_addressed};
+    ghost use Rattle.cosim_msgs.specs.Views.{addressed_view};
 
     /// What a field makes of it.
     #[tactic(auto, unfolding(crate::specs::Steps::addressed_step))]
@@ -50,7 +53,7 @@ impl<'a> BorrowedAddressed<'a> {
         field: &WireField,
     ) -> Result<BorrowedAddressed<'a>, WireRefusal>
         requires { IsWithin (length octets.now) (span field.now.value) }
-        ensures { Shows shown_addressed result (addressed_step octets.now (shown_addressed self.entry) (record { at = at; field = field.now })) }
+        ensures { addressed_step octets.now (addressed_view self.entry) (record { at = at; field = field.now }) ≡ result_map_both addressed_view (λ refusal. refusal) result }
     {
         let channel_name = text_or(self.channel_name, octets, at, field, CHANNEL_NAME)?;
         let message = message_or(self.message, octets, field)?;
@@ -62,7 +65,7 @@ impl<'a> BorrowedAddressed<'a> {
 
     /// The message that the octets are.
     fn read(octets: &'a [u8]) -> Result<BorrowedAddressed<'a>, WireRefusal>
-        ensures { Shows shown_addressed result (run (addressed_step octets.now) empty_addressed octets.now 0) }
+        ensures { run (addressed_step octets.now) empty_addressed octets.now 0 ≡ result_map_both addressed_view (λ refusal. refusal) result }
     {
         let mut addressed = BorrowedAddressed {
             channel_name: &[],
@@ -84,16 +87,16 @@ fn message_or<'a>(
     field: &WireField,
 ) -> Result<&'a [u8], WireRefusal>
     requires { IsWithin (length octets.now) (span field.now.value) }
-    ensures { Shows shown_message result (message_with octets.now (message_of before.now) (span_given 2 field.now)) }
+    ensures { message_with octets.now (message_of before.now) (span_given MESSAGE field.now) ≡ result_map_both message_view (λ refusal. refusal) result }
 {
     match span_as(field, MESSAGE) {
-        Some(within) => Message::read(before, &octets[..within.to], within.from),
+        Some(range) => Message::read(before, &octets[..range.to], range.from),
         None => Ok(before),
     }
 }
 
 impl AddressedMessage {
-    ghost use Rattle.cosim_msgs.specs.Answers.{Decodes};
+    ghost use Rattle.esi_base.specs.Answers.{Reads};
     ghost use Rattle.cosim_msgs.specs.Messages.{empty_addressed};
     ghost use Rattle.cosim_msgs.specs.Reading.{run};
     ghost use Rattle.cosim_msgs.specs.Steps.{addressed_step};
@@ -101,9 +104,9 @@ impl AddressedMessage {
 
     /// The message that the octets are.
     fn of_octets(alloc: Global, octets: &[u8]) -> Result<AddressedMessage, MsgStop>
-        ensures { Decodes result (run (addressed_step octets.now) empty_addressed octets.now 0) }
+        ensures { Reads (run (addressed_step octets.now) empty_addressed octets.now 0) result }
     {
-        let addressed = BorrowedAddressed::read(octets)?;
+        let addressed = BorrowedAddressed::read(octets).map_err(MsgStop::Refused)?;
         Ok(AddressedMessage {
             channel_name: List::from_slice(alloc, addressed.channel_name)?,
             message: Message {
@@ -112,7 +115,7 @@ impl AddressedMessage {
         })
     }
 
-    /// Adds the message's octets, or a front of them for want of memory.
+    /// Adds the message's octets, or a prefix of them when it runs out of memory.
     fn push(&self, out: &mut Octets) -> Result<(), NoMemory>
         ensures written { OnOk result (out.new ≡ out.old ++ addressed_spelling self.now) }
         ensures front { take (length out.old) out.new ≡ out.old }

@@ -1,7 +1,8 @@
 //! The description of one channel.
 ghost use Rattle.std.specs.Prelude.{◌≡◌, ◌≤◌, ◌++◌, length, take, OnOk, IfSome};
+ghost use Rattle.cosim_msgs.specs.declared.channel_desc.TheConstants.{DIR};
 ghost use Rattle.cosim_msgs.specs.Values.{varint_as as varint_given};
-ghost use Rattle.cosim_msgs.specs.Steps.{dir_or as dir_kept};
+ghost use Rattle.cosim_msgs.specs.Steps.{dir_or as dir_before};
 
 use crate::cosim_message::{CosimMessage, MsgStop};
 use crate::values::{next_field, text_or, varint_as};
@@ -37,14 +38,15 @@ const DIR: u32 = 2;
 
 const TYPE: u32 = 3;
 
+const _: () = prove!(NAME == 1 && DIR == 2 && TYPE == 3);
+
 impl<'a> BorrowedDesc<'a> {
-    ghost use Rattle.proto_wire.specs.FieldReading.{field_at};
-    ghost use Rattle.cosim_msgs.specs.Answers.{Shows};
+    ghost use Rattle.std.specs.Result.{result_map_both};
     ghost use Rattle.cosim_msgs.specs.Values.{IsWithin, span};
     ghost use Rattle.cosim_msgs.specs.Messages.{empty_desc};
     ghost use Rattle.cosim_msgs.specs.Reading.{run};
-    ghost use Rattle.cosim_msgs.specs.Steps.{desc_step, dir_or as dir_kept};
-    ghost use Rattle.cosim_msgs.specs.Shown.{shown_desc};
+    ghost use Rattle.cosim_msgs.specs.Steps.{desc_step, dir_or as dir_before};
+    ghost use Rattle.cosim_msgs.specs.Views.{desc_view};
 
     /// What a field makes of it.
     #[tactic(auto, unfolding(crate::specs::Steps::desc_step))]
@@ -55,7 +57,7 @@ impl<'a> BorrowedDesc<'a> {
         field: &WireField,
     ) -> Result<BorrowedDesc<'a>, WireRefusal>
         requires { IsWithin (length octets.now) (span field.now.value) }
-        ensures { Shows shown_desc result (desc_step octets.now (shown_desc self.entry) (record { at = at; field = field.now })) }
+        ensures { desc_step octets.now (desc_view self.entry) (record { at = at; field = field.now }) ≡ result_map_both desc_view (λ refusal. refusal) result }
     {
         let name = text_or(self.name, octets, at, field, NAME)?;
         let ty = text_or(self.ty, octets, at, field, TYPE)?;
@@ -63,10 +65,10 @@ impl<'a> BorrowedDesc<'a> {
         Ok(BorrowedDesc { name, dir, ty })
     }
 
-    /// The description that octets from a place on are.
+    /// The description that octets from an offset on are.
     fn read(octets: &'a [u8], from: usize) -> Result<BorrowedDesc<'a>, WireRefusal>
         requires { from ≤ length octets.now }
-        ensures { Shows shown_desc result (run (desc_step octets.now) empty_desc octets.now from) }
+        ensures { run (desc_step octets.now) empty_desc octets.now from ≡ result_map_both desc_view (λ refusal. refusal) result }
     {
         let mut desc = BorrowedDesc {
             name: &[],
@@ -84,7 +86,7 @@ impl<'a> BorrowedDesc<'a> {
 
 /// The direction that a field gives, or the one from before.
 fn dir_or(before: u32, field: &WireField) -> u32
-    ensures { result ≡ dir_kept before (varint_given 2 field.now) }
+    ensures { result ≡ dir_before before (varint_given DIR field.now) }
 {
     match varint_as(field, DIR) {
         Some(value) => (value % (1 << 32)) as u32,
@@ -93,22 +95,22 @@ fn dir_or(before: u32, field: &WireField) -> u32
 }
 
 impl ChannelDesc {
-    ghost use Rattle.cosim_msgs.specs.Answers.{Gives, Decodes};
+    ghost use Rattle.esi_base.specs.Answers.{Reads};
     ghost use Rattle.cosim_msgs.specs.Messages.{empty_desc};
     ghost use Rattle.cosim_msgs.specs.Reading.{run};
     ghost use Rattle.cosim_msgs.specs.Steps.{desc_step};
     ghost use Rattle.cosim_msgs.specs.Spelling.{desc_spelling};
 
-    /// The description that octets from a place on are.
+    /// The description that octets from an offset on are.
     pub(crate) fn of_octets(
         alloc: Global,
         octets: &[u8],
         from: usize,
     ) -> Result<ChannelDesc, MsgStop>
         requires { from ≤ length octets.now }
-        ensures { Decodes result (run (desc_step octets.now) empty_desc octets.now from) }
+        ensures { Reads (run (desc_step octets.now) empty_desc octets.now from) result }
     {
-        let desc = BorrowedDesc::read(octets, from)?;
+        let desc = BorrowedDesc::read(octets, from).map_err(MsgStop::Refused)?;
         Ok(ChannelDesc {
             name: List::from_slice(alloc, desc.name)?,
             dir: desc.dir,
@@ -116,7 +118,7 @@ impl ChannelDesc {
         })
     }
 
-    /// Adds the description's octets, or a front of them for want of memory.
+    /// Adds the description's octets, or a front of them when it runs out of memory.
     pub(crate) fn push(&self, out: &mut Octets) -> Result<(), NoMemory>
         ensures written { OnOk result (out.new ≡ out.old ++ desc_spelling self.now) }
         ensures front { take (length out.old) out.new ≡ out.old }

@@ -18,21 +18,24 @@ pub struct Message {
 /// The number of the field.
 pub(crate) const DATA: u32 = 1;
 
+const _: () = prove!(DATA == 1);
+
 impl Message {
-    ghost use Rattle.cosim_msgs.specs.Answers.{Shows, Decodes};
+    ghost use Rattle.std.specs.Result.{result_map_both};
+    ghost use Rattle.esi_base.specs.Answers.{Reads};
     ghost use Rattle.cosim_msgs.specs.Messages.{empty_message};
     ghost use Rattle.cosim_msgs.specs.Reading.{run};
     ghost use Rattle.cosim_msgs.specs.Steps.{message_step};
-    ghost use Rattle.cosim_msgs.specs.Shown.{shown_message, message_of};
+    ghost use Rattle.cosim_msgs.specs.Views.{message_view, message_of};
 
-    /// The octets that the message at a place has, where it goes on from those that were read before.
+    /// The octets that the message at an offset has, where it goes on from those that were read before.
     pub(crate) fn read<'a>(
         before: &'a [u8],
         octets: &'a [u8],
         from: usize,
     ) -> Result<&'a [u8], WireRefusal>
         requires { from ≤ length octets.now }
-        ensures { Shows shown_message result (run (message_step octets.now) (message_of before.now) octets.now from) }
+        ensures { run (message_step octets.now) (message_of before.now) octets.now from ≡ result_map_both message_view (λ refusal. refusal) result }
     {
         let mut data = before;
         let mut at = from;
@@ -45,9 +48,9 @@ impl Message {
 
     /// The message that the octets are.
     fn of_octets(alloc: Global, octets: &[u8]) -> Result<Message, MsgStop>
-        ensures { Decodes result (run (message_step octets.now) empty_message octets.now 0) }
+        ensures { Reads (run (message_step octets.now) empty_message octets.now 0) result }
     {
-        let data = Message::read(&[], octets, 0)?;
+        let data = Message::read(&[], octets, 0).map_err(MsgStop::Refused)?;
         Ok(Message {
             octets: List::from_slice(alloc, data)?,
         })

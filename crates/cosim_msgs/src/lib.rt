@@ -6,9 +6,9 @@ pub mod channel_desc;
 pub mod cosim_message;
 pub mod data_message;
 pub mod list_of_channels;
+mod octet_range;
 mod values;
 pub mod void_message;
-mod within;
 mod writing;
 
 pub use addressed_message::AddressedMessage;
@@ -17,6 +17,3 @@ pub use cosim_message::{CosimMessage, MsgStop};
 pub use data_message::Message;
 pub use list_of_channels::ListOfChannels;
 pub use void_message::VoidMessage;
-
-#[cfg(test)]
-mod tests;

@@ -1,13 +1,14 @@
 //! The list of all channels.
-ghost use Rattle.std.specs.Prelude.{◌≡◌, ◌≤◌, ◌++◌, length, take, OnOk};
-ghost use Rattle.cosim_msgs.specs.Answers.{Gives};
+ghost use Rattle.std.specs.Prelude.{◌≡◌, ◌++◌, length, take, OnOk};
+ghost use Rattle.esi_base.specs.Answers.{AnswersAs};
+ghost use Rattle.cosim_msgs.specs.declared.list_of_channels.TheConstants.{CHANNELS};
 ghost use Rattle.cosim_msgs.specs.Spelling.{channel_field};
 ghost use Rattle.cosim_msgs.specs.Steps.{channels_with};
 ghost use Rattle.cosim_msgs.specs.Values.{IsWithin, span, span_as as span_given};
 
 use crate::channel_desc::ChannelDesc;
 use crate::cosim_message::{CosimMessage, MsgStop};
-use crate::values::{next_field, span_as};
+use crate::values::{next_field_or_stop, span_as};
 use crate::writing::{settle, write_head};
 use esi_base::{List, NoMemory, Octets};
 use proto_wire::WireField;
@@ -23,8 +24,10 @@ pub struct ListOfChannels {
 /// The number of the field.
 const CHANNELS: u32 = 1;
 
+const _: () = prove!(CHANNELS == 1);
+
 impl ListOfChannels {
-    ghost use Rattle.cosim_msgs.specs.Answers.{Decodes};
+    ghost use Rattle.esi_base.specs.Answers.{Reads};
     ghost use Rattle.cosim_msgs.specs.Messages.{empty_list};
     ghost use Rattle.cosim_msgs.specs.Reading.{run};
     ghost use Rattle.cosim_msgs.specs.Steps.{list_step};
@@ -32,18 +35,18 @@ impl ListOfChannels {
 
     /// The list that the octets are.
     fn of_octets(alloc: Global, octets: &[u8]) -> Result<ListOfChannels, MsgStop>
-        ensures { Decodes result (run (list_step octets.now) empty_list octets.now 0) }
+        ensures { Reads (run (list_step octets.now) empty_list octets.now 0) result }
     {
         let mut channels = List::new(alloc);
         let mut at = 0;
-        while let Some(field) = next_field(octets, at)? {
+        while let Some(field) = next_field_or_stop(octets, at)? {
             push_channel(alloc, &mut channels, octets, &field)?;
             at = field.after;
         }
         Ok(ListOfChannels { channels })
     }
 
-    /// Adds the list's octets, or a front of them for want of memory.
+    /// Adds the list's octets, or a front of them when it runs out of memory.
     fn push(&self, out: &mut Octets) -> Result<(), NoMemory>
         ensures written { OnOk result (out.new ≡ out.old ++ list_spelling self.now) }
         ensures front { take (length out.old) out.new ≡ out.old }
@@ -63,17 +66,17 @@ fn push_channel(
     field: &WireField,
 ) -> Result<(), MsgStop>
     requires { IsWithin (length octets.now) (span field.now.value) }
-    ensures { Gives (λ _. channels.new) result (channels_with octets.now channels.old (span_given 1 field.now)) }
+    ensures { AnswersAs (λ _. channels.new) (channels_with octets.now channels.old (span_given CHANNELS field.now)) result }
 {
-    if let Some(within) = span_as(field, CHANNELS) {
-        let desc = ChannelDesc::of_octets(alloc, &octets[..within.to], within.from)?;
-        channels.push(desc).map_err(|_| MsgStop::NoMemory)?;
+    if let Some(range) = span_as(field, CHANNELS) {
+        let desc = ChannelDesc::of_octets(alloc, &octets[..range.to], range.from)?;
+        channels.add(desc)?;
     }
     Ok(())
 }
 
 /// Adds a channel's field: its key, the count of the description's octets, and these; or a front of
-/// that for want of memory.
+/// that when it runs out of memory.
 fn write_channel(out: &mut Octets, desc: &ChannelDesc) -> Result<(), NoMemory>
     ensures written { OnOk result (out.new ≡ out.old ++ channel_field desc.now) }
     ensures front { take (length out.old) out.new ≡ out.old }

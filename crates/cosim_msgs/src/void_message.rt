@@ -1,5 +1,5 @@
 //! The message without fields.
-ghost use Rattle.std.specs.Prelude.{◌≡◌, ◌≤◌, length};
+ghost use Rattle.std.specs.Prelude.{◌≡◌};
 
 use crate::cosim_message::{CosimMessage, MsgStop};
 use crate::values::next_field;
@@ -12,14 +12,15 @@ use std::alloc::Global;
 pub struct VoidMessage;
 
 impl VoidMessage {
-    ghost use Rattle.cosim_msgs.specs.Answers.{Shows, Decodes};
+    ghost use Rattle.std.specs.Result.{result_map_both};
+    ghost use Rattle.esi_base.specs.Answers.{Reads};
     ghost use Rattle.cosim_msgs.specs.Messages.{void_message};
     ghost use Rattle.cosim_msgs.specs.Reading.{run};
     ghost use Rattle.cosim_msgs.specs.Steps.{void_step};
 
     /// Reads fields, none of which it knows.
     fn read(octets: &[u8]) -> Result<VoidMessage, WireRefusal>
-        ensures { Shows (λ message. message) result (run void_step void_message octets.now 0) }
+        ensures { run void_step void_message octets.now 0 ≡ result_map_both (λ message. message) (λ refusal. refusal) result }
     {
         let mut at = 0;
         while let Some(field) = next_field(octets, at)? {
@@ -30,9 +31,9 @@ impl VoidMessage {
 
     /// The message that the octets are.
     fn of_octets(octets: &[u8]) -> Result<VoidMessage, MsgStop>
-        ensures { Decodes result (run void_step void_message octets.now 0) }
+        ensures { Reads (run void_step void_message octets.now 0) result }
     {
-        Ok(VoidMessage::read(octets)?)
+        VoidMessage::read(octets).map_err(MsgStop::Refused)
     }
 }
 

@@ -1,15 +1,17 @@
 //! Writing the fields of messages.
-ghost use Rattle.std.specs.Prelude.{◌≡◌, ◌+◌, ◌<◌, ◌≤◌, ◌^◌, ◌++◌, length, take, OnOk, OnErr, IfSome};
+ghost use Rattle.std.specs.Prelude.{◌≡◌, ◌+◌, ◌*◌, ◌<◌, ◌≤◌, ◌^◌, ◌++◌, length, take, OnOk, OnErr, IfSome};
+ghost use Rattle.proto_wire.specs.declared.limit.TheConstants.{GREATEST_FIELD_NUMBER, SPAN_TYPE, VARINT_OCTETS};
 ghost use Rattle.proto_wire.specs.Written.{varint_of, key_of};
 ghost use Rattle.cosim_msgs.specs.Spelling.{octets_field as octets_spelled, number_field as number_spelled};
 
 use esi_base::{NoMemory, Octets};
+use proto_wire::limit::SPAN_TYPE;
 use proto_wire::{write_span, write_varint};
 
 /// Adds a field of octets, which is left out where there are none.
 pub(crate) fn write_octets(out: &mut Octets, number: u32, octets: &[u8]) -> Result<(), NoMemory>
     requires least { 1 ≤ number }
-    requires most { number ≤ 536870911 }
+    requires most { number ≤ GREATEST_FIELD_NUMBER }
     ensures written { OnOk result (out.new ≡ out.old ++ octets_spelled number octets.now) }
     ensures unchanged { OnErr result (out.new ≡ out.old) }
     ensures small { length octets.now < 2 ^ 64 }
@@ -23,14 +25,14 @@ pub(crate) fn write_octets(out: &mut Octets, number: u32, octets: &[u8]) -> Resu
 
 /// Adds the key of a field of octets, and the varint of how many there are, which are still to come.
 pub(crate) fn write_head(out: &mut Octets, number: u32, len: usize) -> Result<(), NoMemory>
-    ensures written { OnOk result (out.new ≡ out.old ++ (key_of number 2 ++ varint_of len)) }
+    ensures written { OnOk result (out.new ≡ out.old ++ (key_of number SPAN_TYPE ++ varint_of len)) }
     ensures front { take (length out.old) out.new ≡ out.old }
 {
-    write_varint(out, 8 * u64::from(number) + 2)?;
+    write_varint(out, 8 * u64::from(number) + SPAN_TYPE)?;
     write_varint(out, len as u64)
 }
 
-/// Leaves what was written, or takes it back for want of memory: then the first `len` octets are left.
+/// Leaves what was written, or takes it back when memory ran out: then the first `len` octets are left.
 pub(crate) fn settle(
     out: &mut Octets,
     len: usize,
@@ -38,7 +40,7 @@ pub(crate) fn settle(
 ) -> Result<(), NoMemory>
     requires { len ≤ length out.old }
     ensures same { result ≡ written }
-    ensures kept { OnOk written (out.new ≡ out.old) }
+    ensures stays { OnOk written (out.new ≡ out.old) }
     ensures undone { OnErr written (out.new ≡ take len out.old) }
     ensures small { length out.new < 2 ^ 64 }
 {
@@ -64,7 +66,7 @@ pub(crate) fn write_number(out: &mut Octets, number: u32, value: u32) -> Result<
 /// How many octets such a field takes.
 pub(crate) fn number_len(number: u32, value: u32) -> usize
     ensures len { result ≡ length (number_spelled number value) }
-    ensures short { result ≤ 20 }
+    ensures short { result ≤ 2 * VARINT_OCTETS }
 {
     if value == 0 {
         0
@@ -95,7 +97,7 @@ pub(crate) fn span_len(len: usize) -> Option<usize>
 /// How many octets the varint of a number takes.
 fn varint_len(value: u64) -> usize
     ensures len { result ≡ length (varint_of value) }
-    ensures short { result ≤ 10 }
+    ensures short { result ≤ VARINT_OCTETS }
 {
     let mut len = 1;
     let mut rest = value;

@@ -29,13 +29,13 @@ beyond = refl
 within : front_of 3 (0 ∷ 0 ∷ 0 ∷ 0 ∷ 3 ∷ 1 ∷ 2 ∷ []) ≡ Unfinished
 within = refl
 
--- the flag is judged before the length
+-- the flag is checked before the length
 flag_first : front_of 3 (1 ∷ 0 ∷ 0 ∷ 0 ∷ 4 ∷ []) ≡ Compressed
 flag_first = refl
 
 flag_two : front_of 3 (2 ∷ 0 ∷ 0 ∷ 0 ∷ 0 ∷ []) ≡ Compressed
 flag_two = refl
 
--- a message of one octet, and what stands behind it
+-- a message of one octet, and what stands after it
 one_octet : front_of 3 (0 ∷ 0 ∷ 0 ∷ 0 ∷ 1 ∷ 3 ∷ 0 ∷ 0 ∷ []) ≡ Whole 1
 one_octet = refl

@@ -4,11 +4,11 @@ use Rattle.grpc_calls.specs.Messages.{big_endian}
 use Rattle.grpc_calls.specs.declared.prefix.Front.{Front}
 use Rattle.grpc_calls.specs.declared.prefix.Front.TheVariants.{Whole, Compressed, TooLong, Unfinished}
 
--- a prefix and as many octets behind it: the flag is judged first, then the length
-abbrev pub judged : ℕ → ℕ → ℕ → ℕ → Front
-judged limit flag count behind =
+-- a prefix and as many octets after it: the flag is checked first, then the length
+abbrev pub front_of_prefix : ℕ → ℕ → ℕ → ℕ → Front
+front_of_prefix limit flag count following =
     if flag == 0
-    then (if nat_lt limit count then TooLong else (if nat_lt behind count then Unfinished else Whole count))
+    then (if nat_lt limit count then TooLong else (if nat_lt following count then Unfinished else Whole count))
     else Compressed
 
 abbrev pub front_of : ℕ → List ℕ → Front
@@ -17,4 +17,4 @@ front_of limit (flag ∷ []) = Unfinished
 front_of limit (flag ∷ a ∷ []) = Unfinished
 front_of limit (flag ∷ a ∷ b ∷ []) = Unfinished
 front_of limit (flag ∷ a ∷ b ∷ c ∷ []) = Unfinished
-front_of limit (flag ∷ a ∷ b ∷ c ∷ d ∷ rest) = judged limit flag (big_endian a b c d) (length rest)
+front_of limit (flag ∷ a ∷ b ∷ c ∷ d ∷ rest) = front_of_prefix limit flag (big_endian a b c d) (length rest)

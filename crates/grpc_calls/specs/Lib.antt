@@ -8,4 +8,3 @@ pub mod FrontLaws
 pub mod AnswerLaws
 pub mod StreamLaws
 pub mod CallLaws
-pub mod Reading

@@ -1,14 +1,15 @@
 -- What can stand first in the octets of a stream of messages, by "gRPC over HTTP/2", Length-Prefixed-Message:
 -- a Compressed-Flag of one octet, a Message-Length of four octets, the most significant first, and the Message.
-use Rattle.std.specs.Prelude.{◌≡◌, ℕ, ◌+◌, ◌*◌, ◌/◌, ◌%◌, ◌<◌, ◌≤◌, ◌⊎◌, List, ◌∷◌, [], ◌++◌, length}
+use Rattle.std.specs.Prelude.{◌≡◌, ℕ, ◌+◌, ◌*◌, ◌^◌, ◌/◌, ◌%◌, ◌<◌, ◌≤◌, ◌⊎◌, List, ◌∷◌, [], ◌++◌, length}
+use Rattle.grpc_calls.specs.declared.prefix.TheConstants.{PREFIX_OCTETS}
 
 -- the number that four octets are, the most significant first
 abbrev pub big_endian : ℕ → ℕ → ℕ → ℕ → ℕ
-big_endian a b c d = ((a * 256 + b) * 256 + c) * 256 + d
+big_endian a b c d = ((a * 2 ^ 8 + b) * 2 ^ 8 + c) * 2 ^ 8 + d
 
 -- the four octets of a number below 2^32, the most significant first
 abbrev pub big_endian_octets : ℕ → List ℕ
-big_endian_octets n = n / 16777216 ∷ n / 65536 % 256 ∷ n / 256 % 256 ∷ n % 256 ∷ []
+big_endian_octets n = n / 2 ^ 24 ∷ n / 2 ^ 16 % 2 ^ 8 ∷ n / 2 ^ 8 % 2 ^ 8 ∷ n % 2 ^ 8 ∷ []
 
 -- a message with its prefix, whose flag is 0
 abbrev pub prefixed_of : List ℕ → List ℕ
@@ -59,6 +60,6 @@ pub record IsCut (limit : ℕ) (octets : List ℕ) : Type 0 where
   pub within : big_endian a b c d ≤ limit
   pub missing : length rest < big_endian a b c d
 
--- less than a message: no whole prefix, or less than its message behind it
+-- less than a message: no whole prefix, or less than its message after it
 abbrev pub IsUnfinished : ℕ → List ℕ → Type 0
-IsUnfinished limit octets = (length octets < 5) ⊎ IsCut limit octets
+IsUnfinished limit octets = (length octets < PREFIX_OCTETS) ⊎ IsCut limit octets

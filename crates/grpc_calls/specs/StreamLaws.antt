@@ -1,8 +1,9 @@
 -- Octets have one reading as a stream, and what they begin with stays when more octets follow.
-use Rattle.std.specs.Prelude.{◌≡◌, ◌≢◌, ℕ, zero, suc, ◌<◌, ◌+◌, ◌/◌, ◌%◌, ◌≤◌, List, [], ◌∷◌, ◌++◌, length, take, drop, refl}
+use Rattle.std.specs.Prelude.{◌≡◌, ◌≢◌, ℕ, zero, suc, ◌^◌, ◌+◌, ◌/◌, ◌%◌, ◌≤◌, List, [], ◌∷◌, ◌++◌, length, take, drop, refl}
 use Rattle.std.specs.List.{flat_map, AllByRecursion}
 use Rattle.std.proofs.Common.{inl, inr, sym, ap, ◌∙◌, subst, append_assoc, arith}
 use Rattle.std.proofs.lemmas.List.{append-nil, length-append, take_at, drop_at}
+use Rattle.grpc_calls.specs.declared.prefix.TheConstants.{PREFIX_OCTETS}
 use Rattle.grpc_calls.specs.Messages.{big_endian, prefixed_of, IsMessage}
 use Rattle.grpc_calls.specs.Front.{front_of}
 use Rattle.grpc_calls.specs.FrontLaws.{message_whole, compressed_front, too_long_front, unfinished_front, front_cases}
@@ -11,7 +12,7 @@ use Rattle.grpc_calls.specs.declared.prefix.Front.TheVariants as F
 use Rattle.grpc_calls.specs.Streams.{End, Ends, AreMessages, IsStream, HasStream}
 use Rattle.grpc_calls.specs.Streams.End.{Compressed, TooLong, Unfinished}
 
--- more octets behind a message leave it as it is
+-- more octets after a message leave it as it is
 pub message_grown : (limit : ℕ) (octets message after more : List ℕ) → IsMessage limit octets message after → IsMessage limit (octets ++ more) message (after ++ more)
 message_grown limit octets message after more m =
     record {
@@ -74,11 +75,11 @@ no_end limit octets message after Unfinished m h = let e = sym (message_whole li
 pub one_message : (limit : ℕ) (octets message after other left : List ℕ) → IsMessage limit octets message after → IsMessage limit octets other left → (message ≡ other) × (after ≡ left)
 one_message limit octets message after other left m n =
     let e : 0 ∷ m.a ∷ m.b ∷ m.c ∷ m.d ∷ (message ++ after) ≡ 0 ∷ n.a ∷ n.b ∷ n.c ∷ n.d ∷ (other ++ left) = sym m.whole ∙ n.whole in
-    let behind : message ++ after ≡ other ++ left = ap (λ o. drop 5 o) e in
+    let following : message ++ after ≡ other ++ left = ap (λ o. drop PREFIX_OCTETS o) e in
     let f = sym (message_whole limit octets message after m) ∙ message_whole limit octets other left n in
     let same : length message ≡ length other = cc f in (
-      sym (take_at message after (length message) refl) ∙ ap (λ o. take (length message) o) behind ∙ take_at other left (length message) (sym same),
-      sym (drop_at message after (length message) refl) ∙ ap (λ o. drop (length message) o) behind ∙ drop_at other left (length message) (sym same),
+      sym (take_at message after (length message) refl) ∙ ap (λ o. take (length message) o) following ∙ take_at other left (length message) (sym same),
+      sym (drop_at message after (length message) refl) ∙ ap (λ o. drop (length message) o) following ∙ drop_at other left (length message) (sym same),
     )
 
 -- octets have one reading as a stream
@@ -92,23 +93,23 @@ one_stream limit [] octets (other ∷ others) rest left end last h e (after, fir
     absurd (no_end limit octets other after end first (subst (λ o. Ends limit o end) (sym h) e))
 one_stream limit (message ∷ messages) octets [] rest left end last (after, first, h) e g f =
     absurd (no_end limit octets message after last first (subst (λ o. Ends limit o last) (sym g) f))
-one_stream limit (message ∷ messages) octets (other ∷ others) rest left end last (after, first, h) e (behind, second, g) f =
-    let one = one_message limit octets message after other behind first second in
+one_stream limit (message ∷ messages) octets (other ∷ others) rest left end last (after, first, h) e (following, second, g) f =
+    let one = one_message limit octets message after other following first second in
     let tail = one_stream limit messages after others rest left end last h e (subst (λ o. AreMessages limit o others left) (sym one.1) g) f in
     (ap (λ m. m ∷ messages) one.0 ∙ ap (λ ms. other ∷ ms) tail.0, tail.1, tail.2)
 
 -- four octets are the number that they were made of
-pub big_endian-octets : (n : ℕ) → big_endian (n / 16777216) (n / 65536 % 256) (n / 256 % 256) (n % 256) ≡ n
+pub big_endian-octets : (n : ℕ) → big_endian (n / 2 ^ 24) (n / 2 ^ 16 % 2 ^ 8) (n / 2 ^ 8 % 2 ^ 8) (n % 2 ^ 8) ≡ n
 big_endian-octets n = omega arith
 
 -- a message with its prefix is read as that message
 pub prefixed_message : (limit : ℕ) (message after : List ℕ) → length message ≤ limit → IsMessage limit (prefixed_of message ++ after) message after
 prefixed_message limit message after within =
     record {
-      a = length message / 16777216;
-      b = length message / 65536 % 256;
-      c = length message / 256 % 256;
-      d = length message % 256;
+      a = length message / 2 ^ 24;
+      b = length message / 2 ^ 16 % 2 ^ 8;
+      c = length message / 2 ^ 8 % 2 ^ 8;
+      d = length message % 2 ^ 8;
       whole = refl;
       count = sym (big_endian-octets (length message));
       within = within;
@@ -125,21 +126,21 @@ prefixed_messages limit (message ∷ messages) rest (first, others) = (
 
 -- octets have a reading as a stream
 some_stream : (fuel limit : ℕ) (octets : List ℕ) → length octets ≤ fuel → HasStream limit octets
-some_stream fuel limit [] h = record { messages = []; rest = []; end = Unfinished; stream = record { given = refl; ends = inl (omega arith) } }
-some_stream fuel limit (flag ∷ []) h = record { messages = []; rest = flag ∷ []; end = Unfinished; stream = record { given = refl; ends = inl (omega arith) } }
-some_stream fuel limit (flag ∷ a ∷ []) h = record { messages = []; rest = flag ∷ a ∷ []; end = Unfinished; stream = record { given = refl; ends = inl (omega arith) } }
-some_stream fuel limit (flag ∷ a ∷ b ∷ []) h = record { messages = []; rest = flag ∷ a ∷ b ∷ []; end = Unfinished; stream = record { given = refl; ends = inl (omega arith) } }
-some_stream fuel limit (flag ∷ a ∷ b ∷ c ∷ []) h = record { messages = []; rest = flag ∷ a ∷ b ∷ c ∷ []; end = Unfinished; stream = record { given = refl; ends = inl (omega arith) } }
+some_stream fuel limit [] h = record { messages = []; rest = []; end = Unfinished; stream = record { are = refl; ends = inl (omega arith) } }
+some_stream fuel limit (flag ∷ []) h = record { messages = []; rest = flag ∷ []; end = Unfinished; stream = record { are = refl; ends = inl (omega arith) } }
+some_stream fuel limit (flag ∷ a ∷ []) h = record { messages = []; rest = flag ∷ a ∷ []; end = Unfinished; stream = record { are = refl; ends = inl (omega arith) } }
+some_stream fuel limit (flag ∷ a ∷ b ∷ []) h = record { messages = []; rest = flag ∷ a ∷ b ∷ []; end = Unfinished; stream = record { are = refl; ends = inl (omega arith) } }
+some_stream fuel limit (flag ∷ a ∷ b ∷ c ∷ []) h = record { messages = []; rest = flag ∷ a ∷ b ∷ c ∷ []; end = Unfinished; stream = record { are = refl; ends = inl (omega arith) } }
 some_stream zero limit (flag ∷ a ∷ b ∷ c ∷ d ∷ rest) h = absurd (omega arith)
 some_stream (suc fuel) limit (flag ∷ a ∷ b ∷ c ∷ d ∷ rest) h =
     elim (front_cases limit flag a b c d rest) [
-      | inl refused ↦ record { messages = []; rest = flag ∷ a ∷ b ∷ c ∷ d ∷ rest; end = Compressed; stream = record { given = refl; ends = refused } }
-      | inr (inl refused) ↦ record { messages = []; rest = flag ∷ a ∷ b ∷ c ∷ d ∷ rest; end = TooLong; stream = record { given = refl; ends = refused } }
-      | inr (inr (inl cut)) ↦ record { messages = []; rest = flag ∷ a ∷ b ∷ c ∷ d ∷ rest; end = Unfinished; stream = record { given = refl; ends = inr cut } }
+      | inl stays_so ↦ record { messages = []; rest = flag ∷ a ∷ b ∷ c ∷ d ∷ rest; end = Compressed; stream = record { are = refl; ends = stays_so } }
+      | inr (inl stays_so) ↦ record { messages = []; rest = flag ∷ a ∷ b ∷ c ∷ d ∷ rest; end = TooLong; stream = record { are = refl; ends = stays_so } }
+      | inr (inr (inl cut)) ↦ record { messages = []; rest = flag ∷ a ∷ b ∷ c ∷ d ∷ rest; end = Unfinished; stream = record { are = refl; ends = inr cut } }
       | inr (inr (inr (message, after, first))) ↦
           let all : length rest + 5 ≡ 5 + (length message + length after) = omega (arith, ap length first.whole, length-append message after) in
           let next = some_stream fuel limit after (omega arith) in
-          record { messages = message ∷ next.messages; rest = next.rest; end = next.end; stream = record { given = (after, first, next.stream.given); ends = next.stream.ends } }
+          record { messages = message ∷ next.messages; rest = next.rest; end = next.end; stream = record { are = (after, first, next.stream.are); ends = next.stream.ends } }
     ]
 
 pub each_has_stream : (limit : ℕ) (octets : List ℕ) → HasStream limit octets
@@ -149,20 +150,11 @@ each_has_stream limit octets = some_stream (length octets) limit octets (omega a
 pub same_stream : (limit : ℕ) (octets : List ℕ) (messages others : List (List ℕ)) (rest left : List ℕ) (end last : End)
     → IsStream limit octets messages rest end → IsStream limit octets others left last
     → (messages ≡ others) × (rest ≡ left) × (end ≡ last)
-same_stream limit octets messages others rest left end last h g = one_stream limit messages octets others rest left end last h.given h.ends g.given g.ends
+same_stream limit octets messages others rest left end last h g = one_stream limit messages octets others rest left end last h.are h.ends g.are g.ends
 
 -- prefixed messages are a stream that ends with the last of them
 pub prefixed_stream : (limit : ℕ) (messages : List (List ℕ)) → AllByRecursion (λ message. length message ≤ limit) messages → IsStream limit (flat_map prefixed_of messages) messages [] Unfinished
 prefixed_stream limit messages h = record {
-  given = subst (λ o. AreMessages limit o messages []) (append-nil (flat_map prefixed_of messages)) (prefixed_messages limit messages [] h);
+  are = subst (λ o. AreMessages limit o messages []) (append-nil (flat_map prefixed_of messages)) (prefixed_messages limit messages [] h);
   ends = inl (omega arith);
 }
-
--- one more message behind others
-pub one_more : (limit : ℕ) (octets : List ℕ) (messages : List (List ℕ)) (rest message after : List ℕ) → AreMessages limit octets messages rest → IsMessage limit rest message after → AreMessages limit octets (messages ++ message ∷ []) after
-one_more limit octets [] rest message after h m = (after, subst (λ o. IsMessage limit o message after) (sym h) m, refl)
-one_more limit octets (first ∷ messages) rest message after (behind, f, h) m = (behind, f, one_more limit behind messages rest message after h m)
-
--- fewer octets are left behind a message
-pub message_shortens : (limit : ℕ) (octets message after : List ℕ) → IsMessage limit octets message after → length after < length octets
-message_shortens limit octets message after m = omega (arith, ap length m.whole, length-append message after)

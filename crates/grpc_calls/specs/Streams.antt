@@ -2,7 +2,7 @@
 use Rattle.std.specs.Prelude.{◌≡◌, ℕ, List, [], ◌∷◌}
 use Rattle.grpc_calls.specs.Messages.{IsMessage, IsCompressed, IsTooLong, IsUnfinished}
 
--- how a stream goes on behind its whole messages
+-- how a stream goes on after its whole messages
 pub data End : Type 0 where
   Compressed : End
   TooLong : End
@@ -22,7 +22,7 @@ AreMessages limit octets (message ∷ messages) rest =
 
 -- the octets are these messages and no others: then comes a refusal, or less than a message
 pub record IsStream (limit : ℕ) (octets : List ℕ) (messages : List (List ℕ)) (rest : List ℕ) (end : End) : Type 0 where
-  pub given : AreMessages limit octets messages rest
+  pub are : AreMessages limit octets messages rest
   pub ends : Ends limit rest end
 
 -- there are such messages

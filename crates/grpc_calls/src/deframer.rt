@@ -1,12 +1,12 @@
 //! The messages of a stream that arrives in pieces.
 ghost use Rattle.std.specs.Prelude.{◌≡◌, ◌↔◌, ◌+◌, ◌≤◌, [], length, take, drop, IfOk, IfErr, OnOk, OnErr};
 ghost use Rattle.grpc_calls.specs.Messages.{IsCompressed, IsTooLong, IsUnfinished, HoldsMessage};
-ghost use Rattle.grpc_calls.specs.Calls.{Feeds, Gives};
+ghost use Rattle.grpc_calls.specs.declared.prefix.TheConstants.{PREFIX_OCTETS};
+ghost use Rattle.grpc_calls.specs.Calls.{Feeds, HandsOut};
 ghost use Rattle.grpc_calls.specs.Answers.{IfMessage, OnNoMessage, IsPending, IsStop};
 
-use crate::prefix::{Front, PREFIX_OCTETS, judge};
-use crate::unread::Unread;
-use esi_base::{NoMemory, Octets, Poll};
+use crate::prefix::{Front, PREFIX_OCTETS, read_front};
+use esi_base::{NoMemory, OctetQueue, Octets, Poll};
 use std::alloc::Global;
 use std::marker::Model;
 
@@ -18,7 +18,7 @@ pub enum DeframeStop {
     Compressed,
     /// The length of the next message passes the limit.
     TooLong,
-    /// Memory could not be had.
+    /// Out of memory.
     NoMemory,
 }
 
@@ -28,7 +28,7 @@ pub enum DeframeStop {
 pub struct Deframer {
     alloc: Global,
     limit: u32,
-    unread: Unread,
+    unread: OctetQueue,
 }
 
 impl Model for Deframer {
@@ -47,27 +47,25 @@ impl Deframer {
         Deframer {
             alloc,
             limit,
-            unread: Unread::new(alloc),
+            unread: OctetQueue::new(alloc),
         }
     }
 
-    /// Takes the next octets of the stream. For want of memory, and for no other cause, it fails, and
-    /// the deframer is as before. The time that all calls take is linear in the octets, whatever the
-    /// pieces.
+    /// Takes the next octets of the stream. It fails only when it runs out of memory, and then the
+    /// deframer is as before. The time that all calls take is linear in the octets, whatever the pieces.
     pub fn feed(&mut self, octets: &[u8]) -> Result<(), NoMemory>
         ensures fed { OnOk result (Feeds self.old octets.now self.new) }
         ensures unchanged { OnErr result (self.new ≡ self.old) }
     {
-        self.unread.push_all(octets)?;
-        Ok(())
+        self.unread.push_all(octets)
     }
 
     /// The next message of the stream, without its prefix. `Compressed` and `TooLong` come as soon as
-    /// the five octets of a prefix stand, the flag judged before the length; neither reads on, so
+    /// the five octets of a prefix stand, the flag checked before the length; neither reads on, so
     /// each later call answers the same. Pending comes exactly where neither comes and no whole
-    /// message stands. For want of memory the message stays, and the next call gives it.
+    /// message stands. When memory runs out the message stays, and the next call gives it.
     pub fn poll_message(&mut self) -> Poll<Result<Octets, DeframeStop>>
-        ensures message { IfMessage result (λ message. Gives self.old message self.new) }
+        ensures message { IfMessage result (λ message. HandsOut self.old message self.new) }
         ensures compressed { IsStop DeframeStop.Compressed result ↔ IsCompressed self.old.unread }
         ensures too_long { IsStop DeframeStop.TooLong result
             ↔ IsTooLong self.old.limit self.old.unread }
@@ -76,7 +74,7 @@ impl Deframer {
             → HoldsMessage self.old.limit self.old.unread }
         ensures unchanged { OnNoMessage result (self.new ≡ self.old) }
     {
-        match judge(self.limit, self.unread.as_slice()) {
+        match read_front(self.limit, self.unread.as_slice()) {
             Front::Unfinished => Poll::Pending,
             Front::Compressed => Poll::Ready(Err(DeframeStop::Compressed)),
             Front::TooLong => Poll::Ready(Err(DeframeStop::TooLong)),
@@ -84,17 +82,17 @@ impl Deframer {
         }
     }
 
-    /// Takes the message of `count` octets that stands first, whole. For want of memory, and for no
-    /// other cause, it fails, and takes nothing.
+    /// Takes the message of `count` octets that stands first, whole. It fails only when it runs out of
+    /// memory, and then takes nothing.
     fn take_message(&mut self, count: usize) -> Result<Octets, DeframeStop>
-        requires { 5 + count ≤ length self.old.unread }
-        ensures message { IfOk result (λ message. message ≡ take count (drop 5 self.old.unread)) }
-        ensures taken { OnOk result (self.new ≡ record self.old { unread = drop (5 + count) self.old.unread }) }
+        requires { PREFIX_OCTETS + count ≤ length self.old.unread }
+        ensures message { IfOk result (λ message. message ≡ take count (drop PREFIX_OCTETS self.old.unread)) }
+        ensures taken { OnOk result (self.new ≡ record self.old { unread = drop (PREFIX_OCTETS + count) self.old.unread }) }
         ensures no_memory { IfErr result (λ stop. stop ≡ DeframeStop.NoMemory) }
         ensures unchanged { OnErr result (self.new ≡ self.old) }
     {
-        let behind = &self.unread.as_slice()[PREFIX_OCTETS..];
-        match Octets::from_slice(self.alloc, &behind[..count]) {
+        let after_prefix = &self.unread.as_slice()[PREFIX_OCTETS..];
+        match Octets::from_slice(self.alloc, &after_prefix[..count]) {
             Ok(message) => {
                 self.unread.skip(PREFIX_OCTETS + count);
                 Ok(message)

@@ -6,7 +6,7 @@ ghost use Rattle.grpc_calls.specs.Streams.{End, AreMessages, Ends, IsStream, Has
 ghost use Rattle.grpc_calls.specs.Streams.End.{Unfinished};
 ghost use Rattle.grpc_calls.specs.Calls.{Deframing, Call, IsRun, octets_fed, messages_given, StaysRefused};
 
-/// Octets have exactly one reading as a stream: its messages, and how it goes on behind them.
+/// Octets have exactly one reading as a stream: its messages, and how it goes on after them.
 #[tactic(auto, using(crate::specs::StreamLaws::each_has_stream, crate::specs::StreamLaws::same_stream))]
 pub fn one_stream_law()
     ensures some { (limit : ℕ) (octets : List ℕ) → HasStream limit octets }
@@ -30,7 +30,7 @@ pub fn deframer_law()
 
 /// The messages do not depend on the pieces in which the octets were fed, nor on when the deframer was
 /// asked for a message: after any two lists of calls of a new deframer that fed the same octets, joined,
-/// and behind which Pending or a refusal is due, the same messages were given, and the same is due.
+/// and after which Pending or a refusal is due, the same messages were given, and the same is due.
 #[tactic(auto, using(crate::specs::CallLaws::any_cutting))]
 pub fn any_cutting_law()
     ensures { (limit : ℕ) (calls others : List Call) (new found : Deframing) (end last : End)
@@ -49,7 +49,7 @@ pub fn refusal_law()
         → StaysRefused calls new end }
 {}
 
-/// Messages within the limit are read as `prefixed` wrote them, one behind another, with nothing left.
+/// Messages within the limit are read as `prefixed` wrote them, one after another, with nothing left.
 #[tactic(auto, using(crate::specs::StreamLaws::prefixed_stream))]
 pub fn prefixed_law()
     ensures { (limit : ℕ) (messages : List (List ℕ))

@@ -1,13 +1,10 @@
-//! Messages of gRPC calls: each stands in its stream of octets behind a prefix of five octets
+//! Messages of gRPC calls: each stands in its stream of octets after a prefix of five octets
 //! ("gRPC over HTTP/2", Length-Prefixed-Message).
 #![tactic(auto)]
 
 mod deframer;
 mod laws;
 mod prefix;
-#[cfg(test)]
-mod tests;
-mod unread;
 
 pub use deframer::{DeframeStop, Deframer};
 pub use laws::{any_cutting_law, deframer_law, one_stream_law, prefixed_law, refusal_law};

@@ -6,13 +6,15 @@ ghost use Rattle.grpc_calls.specs.Front.{front_of};
 
 use esi_base::{NoMemory, Octets};
 
-/// How many octets a prefix has.
+/// How many octets a prefix has: one of the flag, four of the length.
 pub(crate) const PREFIX_OCTETS: usize = 5;
+
+const _: () = prove!(PREFIX_OCTETS == 5);
 
 /// What stands first in octets of a stream.
 #[derive(Clone, Copy, Debug, PartialEq, Eq)]
 pub(crate) enum Front {
-    /// A whole message of so many octets, behind its prefix.
+    /// A whole message of so many octets, after its prefix.
     Whole(usize),
     /// A prefix whose flag is not 0.
     Compressed,
@@ -22,9 +24,9 @@ pub(crate) enum Front {
     Unfinished,
 }
 
-/// Judges what stands first in octets, for messages of at most `limit` octets: the flag first, then
+/// What stands first in octets, for messages of at most `limit` octets: the flag is checked first, then
 /// the length, both as soon as the five octets of a prefix stand.
-pub(crate) fn judge(limit: u32, octets: &[u8]) -> Front
+pub(crate) fn read_front(limit: u32, octets: &[u8]) -> Front
     ensures { result ≡ front_of limit octets.now }
 {
     let [flag, a, b, c, d, rest @ ..] = octets else {
@@ -45,8 +47,8 @@ pub(crate) fn judge(limit: u32, octets: &[u8]) -> Front
 }
 
 /// Appends a message of fewer than 2^32 octets with its prefix: the flag 0, the length in four
-/// octets, the most significant first, and the message. For want of memory, and for no other cause,
-/// it fails, and leaves `out` as it was.
+/// octets, the most significant first, and the message. It fails only when it runs out of memory, and
+/// then leaves `out` as it was.
 pub fn prefixed(message: &[u8], out: &mut Octets) -> Result<(), NoMemory>
     requires { length message.now < 2 ^ 32 }
     ensures appended { OnOk result (out.new ≡ out.old ++ prefixed_of message.now) }

@@ -25,7 +25,7 @@ group_more octet n k j h e =
     let room : octet % 128 + 128 * n < 2 ^ (7 * k) * 128 = omega arith in
     subst (λ m. octet % 128 + 128 * n < m) (sym power) room
 
--- The loops that read a number from its last octet on: the octet before the place is read.
+-- The loops that read a number from its last octet on: the octet before the offset is read.
 
 drop_before : (xs : List ℕ) (at : ℕ) → 0 < at → at ≤ length xs → drop (at - 1) xs ≡ get_or xs (at - 1) 0 ∷ drop at xs
 drop_before xs at some within =

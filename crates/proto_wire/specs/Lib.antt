@@ -3,6 +3,7 @@ pub mod AllFieldsLaws
 pub mod FieldLaws
 pub mod FieldReading
 pub mod Fields
+pub mod Rules
 pub mod ValueLaws
 pub mod Varint
 pub mod VarintLaws

@@ -2,6 +2,7 @@
 -- group first, one in each octet; the bit above them says that another octet follows.
 use Rattle.std.specs.Prelude.{◌≡◌, ℕ, ◌+◌, ◌*◌, ◌%◌, ◌^◌, ◌<◌, ◌≤◌, ◌⊎◌, Bool, nat_le, List, [], ◌∷◌, ◌++◌, length, refl}
 use Rattle.std.specs.List.{AllByRecursion}
+use Rattle.proto_wire.specs.declared.limit.TheConstants.{VARINT_OCTETS}
 use Rattle.std.proofs.Common.{lit<, lit≤, inl, inr}
 
 -- the number that groups of seven bits are, the least significant group first
@@ -21,7 +22,7 @@ IsChain (octet ∷ octets) = ((octet < 128) × (octets ≡ [])) ⊎ ((128 ≤ oc
 -- At most ten octets are the varint of a number of 64 bits. A number has several: groups that are 0 may follow.
 pub record IsVarint (octets : List ℕ) (value : ℕ) : Type 0 where
   pub chain : IsChain octets
-  pub short : length octets ≤ 10
+  pub short : length octets ≤ VARINT_OCTETS
   pub number : value ≡ number_of_groups octets
   pub fits : value < 2 ^ 64
 
@@ -35,7 +36,7 @@ pub record IsOversized (octets : List ℕ) : Type 0 where
   pub rest : List ℕ
   pub begins : octets ≡ front ++ rest
   pub chain : IsChain front
-  pub past : (10 < length front) ⊎ (2 ^ 64 ≤ number_of_groups front)
+  pub past : (VARINT_OCTETS < length front) ⊎ (2 ^ 64 ≤ number_of_groups front)
 
 -- 150 is the varint 96 01, as the encoding's own page has it; 96 81 00 is another one of the same number
 pub varint_examples : IsVarint (150 ∷ 1 ∷ []) 150 × IsVarint (150 ∷ 129 ∷ 0 ∷ []) 150 × IsCutVarint (150 ∷ 129 ∷ [])

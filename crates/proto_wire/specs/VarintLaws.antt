@@ -4,6 +4,9 @@ use Rattle.std.specs.List.{prefix_len}
 use Rattle.std.proofs.Common.{sym, ◌∙◌, ap, subst, inl, inr, arith}
 use Rattle.std.proofs.lemmas.Bool.{le-leb, lt-leb, lt-ltb, le-ltb, cases_lt}
 use Rattle.std.proofs.lemmas.List.{take-append-drop, take_at, length-append, length-take-le}
+use Rattle.proto_wire.specs.declared.rule.WireRule.{WireRule}
+use Rattle.proto_wire.specs.declared.rule.WireRule.TheVariants.{CutShort, OversizedVarint}
+use Rattle.proto_wire.specs.declared.limit.TheConstants.{VARINT_OCTETS}
 use Rattle.proto_wire.specs.Varint.{number_of_groups, continues, IsChain, IsVarint, IsCutVarint, IsOversized}
 use Rattle.proto_wire.specs.FieldReading.{varint_of_len, varint_at}
 
@@ -28,12 +31,12 @@ chain_first (octet ∷ octets) h = of (λ e. chain_first octets e) (cases_lt oct
   where
     of : (prefix_len continues octets < length octets → IsChain (take (prefix_len continues octets + 1) octets)) → ((octet < 128) ⊎ (128 ≤ octet))
         → IsChain (take (prefix_len continues (octet ∷ octets) + 1) (octet ∷ octets))
-    of behind (inl small) = rw (continuing_none octet octets small) (inl (small, refl))
-    of behind (inr great) =
+    of following (inl small) = rw (continuing_none octet octets small) (inl (small, refl))
+    of following (inr great) =
         let more = continuing_more octet octets great in
         let here : prefix_len continues octets < length octets = omega (arith, h, more) in
         let count : prefix_len continues (octet ∷ octets) + 1 ≡ suc (prefix_len continues octets + 1) = omega (arith, more) in
-        rw count (inr (great, behind here))
+        rw count (inr (great, following here))
 
 pub cut_len : (octets : List ℕ) → IsCutVarint octets → prefix_len continues octets ≡ length octets
 cut_len [] h = refl
@@ -44,25 +47,25 @@ len_cut [] h = tt
 len_cut (octet ∷ octets) h = of (λ e. len_cut octets e) (cases_lt octet 128)
   where
     of : (length octets ≤ prefix_len continues octets → IsCutVarint octets) → ((octet < 128) ⊎ (128 ≤ octet)) → IsCutVarint (octet ∷ octets)
-    of behind (inl small) = absurd (omega (arith, h, continuing_none octet octets small))
-    of behind (inr great) = (great, behind (omega (arith, h, continuing_more octet octets great)))
+    of following (inl small) = absurd (omega (arith, h, continuing_none octet octets small))
+    of following (inr great) = (great, following (omega (arith, h, continuing_more octet octets great)))
 
 -- what stands first, by how many octets that continue do
 
-of_len_cut : (octets : List ℕ) (before at : ℕ) → length octets ≤ before → varint_of_len octets before at ≡ Err 701
+of_len_cut : (octets : List ℕ) (before at : ℕ) → length octets ≤ before → varint_of_len octets before at ≡ Err CutShort
 of_len_cut octets before at h = rw (le-leb (length octets) before h) refl
 
-of_len_long : (octets : List ℕ) (before at : ℕ) → before < length octets → 10 ≤ before → varint_of_len octets before at ≡ Err 702
-of_len_long octets before at h long = rw (lt-leb (length octets) before h, le-leb 10 before long) refl
+of_len_long : (octets : List ℕ) (before at : ℕ) → before < length octets → VARINT_OCTETS ≤ before → varint_of_len octets before at ≡ Err OversizedVarint
+of_len_long octets before at h long = rw (lt-leb (length octets) before h, le-leb VARINT_OCTETS before long) refl
 
-of_len_great : (octets : List ℕ) (before at : ℕ) → before < length octets → before < 10 → 2 ^ 64 ≤ number_of_groups (take (before + 1) octets) → varint_of_len octets before at ≡ Err 702
-of_len_great octets before at h short great = rw (lt-leb (length octets) before h, lt-leb 10 before short, le-ltb (number_of_groups (take (before + 1) octets)) (2 ^ 64) great) refl
+of_len_great : (octets : List ℕ) (before at : ℕ) → before < length octets → before < VARINT_OCTETS → 2 ^ 64 ≤ number_of_groups (take (before + 1) octets) → varint_of_len octets before at ≡ Err OversizedVarint
+of_len_great octets before at h short great = rw (lt-leb (length octets) before h, lt-leb VARINT_OCTETS before short, le-ltb (number_of_groups (take (before + 1) octets)) (2 ^ 64) great) refl
 
-of_len_read : (octets : List ℕ) (before at : ℕ) → before < length octets → before < 10 → number_of_groups (take (before + 1) octets) < 2 ^ 64
+of_len_read : (octets : List ℕ) (before at : ℕ) → before < length octets → before < VARINT_OCTETS → number_of_groups (take (before + 1) octets) < 2 ^ 64
     → varint_of_len octets before at ≡ Ok (number_of_groups (take (before + 1) octets), at + (before + 1))
-of_len_read octets before at h short fits = rw (lt-leb (length octets) before h, lt-leb 10 before short, lt-ltb (number_of_groups (take (before + 1) octets)) (2 ^ 64) fits) refl
+of_len_read octets before at h short fits = rw (lt-leb (length octets) before h, lt-leb VARINT_OCTETS before short, lt-ltb (number_of_groups (take (before + 1) octets)) (2 ^ 64) fits) refl
 
--- a varint stands at a place: its number, and the place behind it
+-- a varint stands at an offset: its number, and the offset after it
 pub record VarintStands (octets : List ℕ) (at value after : ℕ) : Type 0 where
   pub front : List ℕ
   pub rest : List ℕ
@@ -70,21 +73,21 @@ pub record VarintStands (octets : List ℕ) (at value after : ℕ) : Type 0 wher
   pub varint : IsVarint front value
   pub after_is : after ≡ at + length front
 
--- no varint stands there, and the number says why
-abbrev pub NoVarint : List ℕ → ℕ → Type 0
-NoVarint octets number = ((number ≡ 701) × IsCutVarint octets) ⊎ ((number ≡ 702) × IsOversized octets)
+-- no varint stands there, and the rule says why
+abbrev pub NoVarint : List ℕ → WireRule → Type 0
+NoVarint octets rule = ((rule ≡ CutShort) × IsCutVarint octets) ⊎ ((rule ≡ OversizedVarint) × IsOversized octets)
 
--- what is answered of octets at a place
-abbrev pub ToldVarint : List ℕ → ℕ → Result (ℕ × ℕ) ℕ → Type 0
-ToldVarint octets at (Ok x) = VarintStands octets at x.0 x.1
-ToldVarint octets at (Err number) = NoVarint (drop at octets) number
+-- what is answered of octets at an offset
+abbrev pub ReportsVarint : List ℕ → ℕ → Result (ℕ × ℕ) WireRule → Type 0
+ReportsVarint octets at (Ok x) = VarintStands octets at x.0 x.1
+ReportsVarint octets at (Err rule) = NoVarint (drop at octets) rule
 
-told_len : (octets xs : List ℕ) (at : ℕ) → drop at octets ≡ xs → ToldVarint octets at (varint_of_len xs (prefix_len continues xs) at)
-told_len octets xs at e = of (cases_lt (prefix_len continues xs) (length xs)) (cases_lt (prefix_len continues xs) 10) (cases_lt (number_of_groups (take (prefix_len continues xs + 1) xs)) (2 ^ 64))
+reports_len : (octets xs : List ℕ) (at : ℕ) → drop at octets ≡ xs → ReportsVarint octets at (varint_of_len xs (prefix_len continues xs) at)
+reports_len octets xs at e = of (cases_lt (prefix_len continues xs) (length xs)) (cases_lt (prefix_len continues xs) VARINT_OCTETS) (cases_lt (number_of_groups (take (prefix_len continues xs + 1) xs)) (2 ^ 64))
   where
-    of : ((prefix_len continues xs < length xs) ⊎ (length xs ≤ prefix_len continues xs)) → ((prefix_len continues xs < 10) ⊎ (10 ≤ prefix_len continues xs))
+    of : ((prefix_len continues xs < length xs) ⊎ (length xs ≤ prefix_len continues xs)) → ((prefix_len continues xs < VARINT_OCTETS) ⊎ (VARINT_OCTETS ≤ prefix_len continues xs))
         → ((number_of_groups (take (prefix_len continues xs + 1) xs) < 2 ^ 64) ⊎ (2 ^ 64 ≤ number_of_groups (take (prefix_len continues xs + 1) xs)))
-        → ToldVarint octets at (varint_of_len xs (prefix_len continues xs) at)
+        → ReportsVarint octets at (varint_of_len xs (prefix_len continues xs) at)
     of (inr cut) short fits = rw (of_len_cut xs (prefix_len continues xs) at cut, e) (inl (refl, len_cut xs cut))
     of (inl h) (inr long) fits =
         let len : length (take (prefix_len continues xs + 1) xs) ≡ prefix_len continues xs + 1 = length-take-le (prefix_len continues xs + 1) xs (omega arith) in
@@ -123,38 +126,38 @@ told_len octets xs at e = of (cases_lt (prefix_len continues xs) (length xs)) (c
         })
 
 -- what is answered is true
-pub told_varint : (octets : List ℕ) (at : ℕ) → ToldVarint octets at (varint_at octets at)
+pub reports_varint : (octets : List ℕ) (at : ℕ) → ReportsVarint octets at (varint_at octets at)
 unfolding varint_at
-told_varint octets at = told_len octets (drop at octets) at refl
+reports_varint octets at = reports_len octets (drop at octets) at refl
 
--- a varint that stands at a place is read
+-- a varint that stands at an offset is read
 pub varint_read : (octets front rest : List ℕ) (at value : ℕ) → drop at octets ≡ front ++ rest → IsVarint front value → varint_at octets at ≡ Ok (value, at + length front)
 unfolding varint_at
 varint_read octets front rest at value e v =
     let len = chain_len front rest v.chain in
     let short = v.short in
     let long = length-append front rest in
-    let taken : take (prefix_len continues (front ++ rest) + 1) (front ++ rest) ≡ front = ap (λ n. take n (front ++ rest)) len ∙ take_at front rest (length front) refl in
-    let number : number_of_groups (take (prefix_len continues (front ++ rest) + 1) (front ++ rest)) ≡ value = ap number_of_groups taken ∙ sym v.number in
+    let front_taken : take (prefix_len continues (front ++ rest) + 1) (front ++ rest) ≡ front = ap (λ n. take n (front ++ rest)) len ∙ take_at front rest (length front) refl in
+    let number : number_of_groups (take (prefix_len continues (front ++ rest) + 1) (front ++ rest)) ≡ value = ap number_of_groups front_taken ∙ sym v.number in
     rw e
     (of_len_read (front ++ rest) (prefix_len continues (front ++ rest)) at (omega arith) (omega arith) (subst (λ n. n < 2 ^ 64) (sym number) v.fits)
     ∙ ap (λ n. Ok (n, at + (prefix_len continues (front ++ rest) + 1))) number
     ∙ ap (λ n. Ok (value, at + n)) len)
 
-pub varint_cut : (octets : List ℕ) (at : ℕ) → IsCutVarint (drop at octets) → varint_at octets at ≡ Err 701
+pub varint_cut : (octets : List ℕ) (at : ℕ) → IsCutVarint (drop at octets) → varint_at octets at ≡ Err CutShort
 unfolding varint_at
 varint_cut octets at h = of_len_cut (drop at octets) (prefix_len continues (drop at octets)) at (let e = cut_len (drop at octets) h in omega arith)
 
-pub varint_oversized : (octets : List ℕ) (at : ℕ) → IsOversized (drop at octets) → varint_at octets at ≡ Err 702
+pub varint_oversized : (octets : List ℕ) (at : ℕ) → IsOversized (drop at octets) → varint_at octets at ≡ Err OversizedVarint
 unfolding varint_at
-varint_oversized octets at h = rw h.begins (of (cases_lt (prefix_len continues (h.front ++ h.rest)) 10) h.past)
+varint_oversized octets at h = rw h.begins (of (cases_lt (prefix_len continues (h.front ++ h.rest)) VARINT_OCTETS) h.past)
   where
-    of : ((prefix_len continues (h.front ++ h.rest) < 10) ⊎ (10 ≤ prefix_len continues (h.front ++ h.rest))) → ((10 < length h.front) ⊎ (2 ^ 64 ≤ number_of_groups h.front))
-        → varint_of_len (h.front ++ h.rest) (prefix_len continues (h.front ++ h.rest)) at ≡ Err 702
+    of : ((prefix_len continues (h.front ++ h.rest) < VARINT_OCTETS) ⊎ (VARINT_OCTETS ≤ prefix_len continues (h.front ++ h.rest))) → ((VARINT_OCTETS < length h.front) ⊎ (2 ^ 64 ≤ number_of_groups h.front))
+        → varint_of_len (h.front ++ h.rest) (prefix_len continues (h.front ++ h.rest)) at ≡ Err OversizedVarint
     of (inr long) past = of_len_long (h.front ++ h.rest) (prefix_len continues (h.front ++ h.rest)) at (let l = chain_len h.front h.rest h.chain in let m = length-append h.front h.rest in omega arith) long
     of (inl short) (inl past) = absurd (let l = chain_len h.front h.rest h.chain in omega arith)
     of (inl short) (inr great) =
         let l = chain_len h.front h.rest h.chain in
         let m = length-append h.front h.rest in
-        let taken : take (prefix_len continues (h.front ++ h.rest) + 1) (h.front ++ h.rest) ≡ h.front = ap (λ n. take n (h.front ++ h.rest)) l ∙ take_at h.front h.rest (length h.front) refl in
-        of_len_great (h.front ++ h.rest) (prefix_len continues (h.front ++ h.rest)) at (omega arith) short (subst (λ xs. 2 ^ 64 ≤ number_of_groups xs) (sym taken) great)
+        let front_taken : take (prefix_len continues (h.front ++ h.rest) + 1) (h.front ++ h.rest) ≡ h.front = ap (λ n. take n (h.front ++ h.rest)) l ∙ take_at h.front h.rest (length h.front) refl in
+        of_len_great (h.front ++ h.rest) (prefix_len continues (h.front ++ h.rest)) at (omega arith) short (subst (λ xs. 2 ^ 64 ≤ number_of_groups xs) (sym front_taken) great)

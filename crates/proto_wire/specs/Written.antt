@@ -2,6 +2,7 @@
 use Rattle.std.specs.Prelude.{◌≡◌, ℕ, zero, suc, ◌+◌, ◌-◌, ◌*◌, ◌/◌, ◌%◌, ◌^◌, ◌≤◌, if◌then◌else◌, nat_lt, List, [], ◌∷◌, ◌++◌, length, refl, codes}
 use Rattle.proto_wire.specs.declared.field.WireField.{WireField}
 use Rattle.proto_wire.specs.declared.field.WireValue.TheVariants.{Varint, Span}
+use Rattle.proto_wire.specs.declared.limit.TheConstants.{VARINT_TYPE, SPAN_TYPE}
 use Rattle.proto_wire.specs.Varint.{IsVarint}
 
 -- the groups of seven bits of a number, the least significant first, up to the last that is not 0 (0 has one); at
@@ -25,21 +26,21 @@ key_of number wire = varint_of (8 * number + wire)
 
 -- the octets of a field whose value is a varint
 unfoldable pub varint_field : ℕ → ℕ → List ℕ
-varint_field number value = key_of number 0 ++ varint_of value
+varint_field number value = key_of number VARINT_TYPE ++ varint_of value
 
 -- the octets of a field whose value is octets
 unfoldable pub span_field : ℕ → List ℕ → List ℕ
-span_field number content = key_of number 2 ++ (varint_of (length content) ++ content)
+span_field number content = key_of number SPAN_TYPE ++ (varint_of (length content) ++ content)
 
--- the field that a varint field is read as, at a place
+-- the field that a varint field is read as, at an offset
 abbrev pub varint_field_at : ℕ → ℕ → ℕ → WireField
 varint_field_at at number value = record { number = number; value = Varint value; after = at + length (varint_field number value) }
 
--- where the octets of a span begin, in a field at a place: behind the key and their count
+-- where the octets of a span begin, in a field at an offset: after the key and their count
 abbrev pub span_begins : ℕ → ℕ → List ℕ → ℕ
-span_begins at number content = at + length (key_of number 2) + length (varint_of (length content))
+span_begins at number content = at + length (key_of number SPAN_TYPE) + length (varint_of (length content))
 
--- the field that a span is read as, at a place: its octets go on to the field's end
+-- the field that a span is read as, at an offset: its octets go on to the field's end
 abbrev pub span_field_at : ℕ → ℕ → List ℕ → WireField
 span_field_at at number content =
     let end = at + length (span_field number content) in

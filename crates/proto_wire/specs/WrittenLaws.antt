@@ -1,8 +1,9 @@
--- What is written is read again: a varint as its number, a field as that field, whatever stands before and behind.
+-- What is written is read again: a varint as its number, a field as that field, whatever stands before and after.
 use Rattle.std.specs.Prelude.{◌≡◌, ℕ, zero, suc, ◌+◌, ◌-◌, ◌*◌, ◌/◌, ◌%◌, ◌^◌, ◌<◌, ◌≤◌, ◌⊎◌, List, [], ◌∷◌, ◌++◌, length, take, drop, slice_range, Result, Ok, Err, OnOk, refl}
 use Rattle.std.proofs.Common.{sym, ◌∙◌, ap, subst, inl, inr, arith, lit<, le_refl}
 use Rattle.std.proofs.lemmas.Bool.{lt-ltb, le-ltb, cases_lt}
 use Rattle.std.proofs.lemmas.List.{append_assoc, length-append, length-take, take_all, take-append-le, take_at, drop_at}
+use Rattle.proto_wire.specs.declared.limit.TheConstants.{GREATEST_FIELD_NUMBER, VARINT_TYPE, SPAN_TYPE}
 use Rattle.proto_wire.specs.Varint.{number_of_groups, IsChain}
 use Rattle.proto_wire.specs.Fields.{IsKey, IsFieldAt}
 use Rattle.proto_wire.specs.Written.{groups_of, varint_of, IsShortestVarint, key_of, varint_field, span_field, varint_field_at, span_begins, span_field_at}
@@ -68,8 +69,8 @@ are_groups zero n h = rw (last_group n) (one_is zero n h)
 are_groups (suc before) n h = of (λ e. are_groups before (n / 128) e) (cases_lt n 128)
   where
     of : (n / 128 < room_of before → AreGroups (groups_of before (n / 128)) before (n / 128)) → ((n < 128) ⊎ (128 ≤ n)) → AreGroups (groups_of (suc before) n) (suc before) n
-    of behind (inl small) = rw (one_group before n small) (one_is (suc before) n small)
-    of behind (inr great) = rw (more_groups before n great) (more_is before n (groups_of before (n / 128)) great (behind (omega arith)))
+    of following (inl small) = rw (one_group before n small) (one_is (suc before) n small)
+    of following (inr great) = rw (more_groups before n great) (more_is before n (groups_of before (n / 128)) great (following (omega arith)))
 
 -- the varint that is written is one of the number, and none is shorter
 pub varint_again : (value : ℕ) → value < 2 ^ 64 → IsShortestVarint (varint_of value) value
@@ -82,37 +83,37 @@ varint_again value h =
       shortest = λ others v. g.shortest others v.chain (sym v.number);
     }
 
-key_again : (number wire : ℕ) → 1 ≤ number → number ≤ 536870911 → wire < 8 → IsKey (key_of number wire) number wire
+key_again : (number wire : ℕ) → 1 ≤ number → number ≤ GREATEST_FIELD_NUMBER → wire < 8 → IsKey (key_of number wire) number wire
 key_again number wire least most small = record { varint = (varint_again (8 * number + wire) (omega arith)).varint; wire_is = small; least = least; most = most }
 
 -- a varint field that is written is read again
-pub varint_field_again : (before rest : List ℕ) (number value : ℕ) → 1 ≤ number → number ≤ 536870911 → value < 2 ^ 64
+pub varint_field_again : (before rest : List ℕ) (number value : ℕ) → 1 ≤ number → number ≤ GREATEST_FIELD_NUMBER → value < 2 ^ 64
     → IsFieldAt (before ++ (varint_field number value ++ rest)) (length before) (varint_field_at (length before) number value)
 unfolding varint_field
 varint_field_again before rest number value least most fits =
     record {
-      key = key_of number 0;
+      key = key_of number VARINT_TYPE;
       value = varint_of value;
       rest = rest;
-      parts = drop_at before (varint_field number value ++ rest) (length before) refl ∙ append_assoc (key_of number 0) (varint_of value) rest;
-      key_is = key_again number 0 least most (lit< tt);
+      parts = drop_at before (varint_field number value ++ rest) (length before) refl ∙ append_assoc (key_of number VARINT_TYPE) (varint_of value) rest;
+      key_is = key_again number VARINT_TYPE least most (lit< tt);
       value_is = (varint_again value fits).varint;
-      after_is = let both = length-append (key_of number 0) (varint_of value) in omega arith;
+      after_is = let both = length-append (key_of number VARINT_TYPE) (varint_of value) in omega arith;
     }
 
 -- a span that is written is read again
-pub span_field_again : (before rest : List ℕ) (number : ℕ) (content : List ℕ) → 1 ≤ number → number ≤ 536870911 → length content < 2 ^ 64
+pub span_field_again : (before rest : List ℕ) (number : ℕ) (content : List ℕ) → 1 ≤ number → number ≤ GREATEST_FIELD_NUMBER → length content < 2 ^ 64
     → IsFieldAt (before ++ (span_field number content ++ rest)) (length before) (span_field_at (length before) number content)
 unfolding span_field
 span_field_again before rest number content least most fits =
-    let key = length-append (key_of number 2) (varint_of (length content) ++ content) in
+    let key = length-append (key_of number SPAN_TYPE) (varint_of (length content) ++ content) in
     let value = length-append (varint_of (length content)) content in
     record {
-      key = key_of number 2;
+      key = key_of number SPAN_TYPE;
       value = varint_of (length content) ++ content;
       rest = rest;
-      parts = drop_at before (span_field number content ++ rest) (length before) refl ∙ append_assoc (key_of number 2) (varint_of (length content) ++ content) rest;
-      key_is = key_again number 2 least most (lit< tt);
+      parts = drop_at before (span_field number content ++ rest) (length before) refl ∙ append_assoc (key_of number SPAN_TYPE) (varint_of (length content) ++ content) rest;
+      key_is = key_again number SPAN_TYPE least most (lit< tt);
       value_is = record {
         len = varint_of (length content);
         content = content;
@@ -129,27 +130,27 @@ pub span_field_content : (before rest : List ℕ) (number : ℕ) (content : List
     → slice_range (before ++ (span_field number content ++ rest)) (span_begins (length before) number content) (length before + length (span_field number content)) ≡ content
 unfolding span_field
 span_field_content before rest number content =
-    let key = length-append (key_of number 2) (varint_of (length content) ++ content) in
+    let key = length-append (key_of number SPAN_TYPE) (varint_of (length content) ++ content) in
     let value = length-append (varint_of (length content)) content in
-    let front = before ++ (key_of number 2 ++ varint_of (length content)) in
-    let front_len : length front ≡ length before + length (key_of number 2) + length (varint_of (length content))
-    = length-append before (key_of number 2 ++ varint_of (length content)) ∙ ap (λ n. length before + n) (length-append (key_of number 2) (varint_of (length content))) ∙ omega arith in
+    let front = before ++ (key_of number SPAN_TYPE ++ varint_of (length content)) in
+    let front_len : length front ≡ length before + length (key_of number SPAN_TYPE) + length (varint_of (length content))
+    = length-append before (key_of number SPAN_TYPE ++ varint_of (length content)) ∙ ap (λ n. length before + n) (length-append (key_of number SPAN_TYPE) (varint_of (length content))) ∙ omega arith in
     let parts : before ++ (span_field number content ++ rest) ≡ front ++ (content ++ rest)
-    = ap (λ xs. before ++ xs) (append_assoc (key_of number 2) (varint_of (length content) ++ content) rest
-    ∙ ap (λ xs. key_of number 2 ++ xs) (append_assoc (varint_of (length content)) content rest)
-    ∙ sym (append_assoc (key_of number 2) (varint_of (length content)) (content ++ rest)))
-    ∙ sym (append_assoc before (key_of number 2 ++ varint_of (length content)) (content ++ rest)) in
-    let count : length before + length (span_field number content) - (length before + length (key_of number 2) + length (varint_of (length content))) ≡ length content = omega arith in
-    ap (λ n. take n (drop (length before + length (key_of number 2) + length (varint_of (length content))) (before ++ (span_field number content ++ rest)))) count
-    ∙ ap (λ xs. take (length content) (drop (length before + length (key_of number 2) + length (varint_of (length content))) xs)) parts
-    ∙ ap (λ xs. take (length content) xs) (drop_at front (content ++ rest) (length before + length (key_of number 2) + length (varint_of (length content))) front_len)
+    = ap (λ xs. before ++ xs) (append_assoc (key_of number SPAN_TYPE) (varint_of (length content) ++ content) rest
+    ∙ ap (λ xs. key_of number SPAN_TYPE ++ xs) (append_assoc (varint_of (length content)) content rest)
+    ∙ sym (append_assoc (key_of number SPAN_TYPE) (varint_of (length content)) (content ++ rest)))
+    ∙ sym (append_assoc before (key_of number SPAN_TYPE ++ varint_of (length content)) (content ++ rest)) in
+    let count : length before + length (span_field number content) - (length before + length (key_of number SPAN_TYPE) + length (varint_of (length content))) ≡ length content = omega arith in
+    ap (λ n. take n (drop (length before + length (key_of number SPAN_TYPE) + length (varint_of (length content))) (before ++ (span_field number content ++ rest)))) count
+    ∙ ap (λ xs. take (length content) (drop (length before + length (key_of number SPAN_TYPE) + length (varint_of (length content))) xs)) parts
+    ∙ ap (λ xs. take (length content) xs) (drop_at front (content ++ rest) (length before + length (key_of number SPAN_TYPE) + length (varint_of (length content))) front_len)
     ∙ take_at content rest (length content) refl
 
--- Fields that are written are read again, whatever stands before and behind them.
+-- Fields that are written are read again, whatever stands before and after them.
 pub record FieldsAgain : Type 0 where
-  pub varint : (before rest : List ℕ) (number value : ℕ) → 1 ≤ number → number ≤ 536870911 → value < 2 ^ 64
+  pub varint : (before rest : List ℕ) (number value : ℕ) → 1 ≤ number → number ≤ GREATEST_FIELD_NUMBER → value < 2 ^ 64
       → IsFieldAt (before ++ (varint_field number value ++ rest)) (length before) (varint_field_at (length before) number value)
-  pub span : (before rest : List ℕ) (number : ℕ) (content : List ℕ) → 1 ≤ number → number ≤ 536870911 → length content < 2 ^ 64
+  pub span : (before rest : List ℕ) (number : ℕ) (content : List ℕ) → 1 ≤ number → number ≤ GREATEST_FIELD_NUMBER → length content < 2 ^ 64
       → IsFieldAt (before ++ (span_field number content ++ rest)) (length before) (span_field_at (length before) number content)
   pub content : (before rest : List ℕ) (number : ℕ) (content : List ℕ)
       → slice_range (before ++ (span_field number content ++ rest)) (span_begins (length before) number content) (length before + length (span_field number content)) ≡ content
@@ -197,12 +198,8 @@ last_of (suc before) n h = one_group before n h
 pub writing_ended : (start : List ℕ) (value : ℕ) (out : List ℕ) (left : ℕ) → Writing start value out left → left < 128 → out ++ left ∷ [] ≡ start ++ varint_of value
 writing_ended start value out left w h = ap (λ xs. out ++ xs) (sym (last_of w.before left h)) ∙ w.same
 
--- and what stood there before still does
-pub writing_front : (start : List ℕ) (value : ℕ) (out more : List ℕ) (left : ℕ) → Writing start value out left → take (length start) (out ++ more) ≡ start
-writing_front start value out more left w = front_kept start out more w.front
-
 -- a span that was added is read again, whatever follows
-pub added_again : {A E : Type 0} (result : Result A E) (old new : List ℕ) (number : ℕ) (content : List ℕ) → 1 ≤ number → number ≤ 536870911 → length content < 2 ^ 64
+pub added_again : {A E : Type 0} (result : Result A E) (old new : List ℕ) (number : ℕ) (content : List ℕ) → 1 ≤ number → number ≤ GREATEST_FIELD_NUMBER → length content < 2 ^ 64
     → OnOk result (new ≡ old ++ span_field number content)
     → OnOk result ((rest : List ℕ) → IsFieldAt (new ++ rest) (length old) (span_field_at (length old) number content))
 added_again (Ok x) old new number content least most small e =
@@ -211,11 +208,11 @@ added_again (Ok x) old new number content least most small e =
     (span_field_again old rest number content least most small)
 added_again (Err x) old new number content least most small e = tt
 
--- a key, a length and as many octets, added one behind another, are a span
-pub span_added : (old keyed counted new : List ℕ) (key number : ℕ) (content : List ℕ) → key ≡ number → keyed ≡ old ++ varint_of (8 * key + 2) → counted ≡ keyed ++ varint_of (length content)
+-- a key, a length and as many octets, added one after another, are a span
+pub span_added : (old keyed counted new : List ℕ) (key number : ℕ) (content : List ℕ) → key ≡ number → keyed ≡ old ++ varint_of (8 * key + SPAN_TYPE) → counted ≡ keyed ++ varint_of (length content)
     → new ≡ counted ++ content → new ≡ old ++ span_field number content
 unfolding span_field
 span_added old keyed counted new key number content k a b c =
-    c ∙ ap (λ xs. xs ++ content) (b ∙ ap (λ xs. xs ++ varint_of (length content)) (a ∙ ap (λ n. old ++ varint_of (8 * n + 2)) k))
-    ∙ append_assoc (old ++ key_of number 2) (varint_of (length content)) content
-    ∙ append_assoc old (key_of number 2) (varint_of (length content) ++ content)
+    c ∙ ap (λ xs. xs ++ content) (b ∙ ap (λ xs. xs ++ varint_of (length content)) (a ∙ ap (λ n. old ++ varint_of (8 * n + SPAN_TYPE)) k))
+    ∙ append_assoc (old ++ key_of number SPAN_TYPE) (varint_of (length content)) content
+    ∙ append_assoc old (key_of number SPAN_TYPE) (varint_of (length content) ++ content)

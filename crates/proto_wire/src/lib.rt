@@ -4,12 +4,14 @@
 
 pub mod field;
 pub mod laws;
+pub mod limit;
 pub mod reading;
-#[cfg(test)]
-mod tests;
+pub mod rule;
 pub mod varint;
 pub mod writing;
 
 pub use field::{WireField, WireRefusal, WireValue};
+pub use limit::{GREATEST_FIELD_NUMBER, VARINT_OCTETS};
 pub use reading::read_field;
+pub use rule::WireRule;
 pub use writing::{write_span, write_varint};

@@ -4,23 +4,16 @@ ghost use Rattle.esi_base.specs.Parts.{whole};
 ghost use Rattle.proto_wire.specs.declared.field.WireField.{WireField as FieldRead};
 ghost use Rattle.proto_wire.specs.declared.field.WireRefusal.{WireRefusal as Refusal};
 ghost use Rattle.proto_wire.specs.Fields.{IsFieldAt, IsRefusedAt, IsSpanWithin};
-ghost use Rattle.proto_wire.specs.FieldReading.{field_at as field_there, field_from as field_behind, number_of_key, value_at as value_there, varint_value_at, fixed64_at as fixed64_there, span_at as span_there, fixed32_at as fixed32_there};
+ghost use Rattle.proto_wire.specs.FieldReading.{field_at as field_there, field_from as field_there_from, number_of_key, value_at as value_there, varint_value_at, fixed64_at as fixed64_there, span_at as span_there, fixed32_at as fixed32_there};
 
 use crate::field::{WireField, WireRefusal, WireValue};
-use crate::varint::{CUT_SHORT, varint_at};
+use crate::limit::{FIXED32_TYPE, FIXED64_TYPE, GREATEST_FIELD_NUMBER, SPAN_TYPE, VARINT_TYPE};
+use crate::rule::WireRule;
+use crate::varint::varint_at;
 
-/// A key's wire type stands for no value.
-const WIRE_TYPE: u16 = 703;
-
-/// A key's field number is none.
-const FIELD_NUMBER: u16 = 704;
-
-/// The greatest field number.
-const GREATEST_NUMBER: u64 = 536_870_911;
-
-/// The field whose key begins at a place of the octets, at most their length; None exactly at their
-/// end. It takes no memory. The key is judged first, by 701, 702, 704 and 703 in this order, then the
-/// value by 701 and 702.
+/// The field whose key begins at an offset of the octets, at most their length; None exactly at their
+/// end. It takes no memory. The key is checked first, by the rules `CutShort`, `OversizedVarint`,
+/// `FieldNumber` and `WireType` in this order, then the value by `CutShort` and `OversizedVarint`.
 pub fn read_field(octets: &[u8], at: usize) -> Result<Option<WireField>, WireRefusal>
     requires { at ≤ length octets.now }
 
@@ -53,19 +46,22 @@ fn field_at(octets: &[u8], at: usize) -> Result<Option<WireField>, WireRefusal>
     }
     match field_from(octets, at) {
         Ok(field) => Ok(Some(field)),
-        Err(number) => Err(WireRefusal { number, at }),
+        Err(rule) => Err(WireRefusal {
+            number: rule.number(),
+            at,
+        }),
     }
 }
 
-/// The field at a place, or the number of the rule that is broken.
+/// The field at an offset, or the rule that is broken.
 #[tactic(auto, unfolding(crate::specs::FieldReading::field_from))]
-fn field_from(octets: &[u8], at: usize) -> Result<WireField, u16>
+fn field_from(octets: &[u8], at: usize) -> Result<WireField, WireRule>
     requires { at ≤ length octets.now }
-    ensures { result ≡ field_behind octets.now at }
+    ensures { result ≡ field_there_from octets.now at }
 {
-    let (key, behind) = varint_at(octets, at)?;
+    let (key, key_end) = varint_at(octets, at)?;
     let number = field_number(key)?;
-    let (value, after) = value_at(key % 8, octets, behind)?;
+    let (value, after) = value_at(key % 8, octets, key_end)?;
     Ok(WireField {
         number,
         value,
@@ -75,35 +71,35 @@ fn field_from(octets: &[u8], at: usize) -> Result<WireField, u16>
 
 /// The field number of a key.
 #[tactic(auto, unfolding(crate::specs::FieldReading::number_of_key))]
-fn field_number(key: u64) -> Result<u32, u16>
+fn field_number(key: u64) -> Result<u32, WireRule>
     ensures { result ≡ number_of_key key }
 {
     let number = key / 8;
-    if number == 0 || number > GREATEST_NUMBER {
-        Err(FIELD_NUMBER)
+    if number == 0 || number > u64::from(GREATEST_FIELD_NUMBER) {
+        Err(WireRule::FieldNumber)
     } else {
         Ok(number as u32)
     }
 }
 
-/// The value of a wire type at a place, and the place behind it.
+/// The value of a wire type at an offset, and the offset after it.
 #[tactic(auto, unfolding(crate::specs::FieldReading::value_at))]
-fn value_at(wire: u64, octets: &[u8], at: usize) -> Result<(WireValue, usize), u16>
+fn value_at(wire: u64, octets: &[u8], at: usize) -> Result<(WireValue, usize), WireRule>
     requires { at ≤ length octets.now }
     ensures { result ≡ value_there wire octets.now at }
 {
     match wire {
-        0 => varint_value(octets, at),
-        1 => fixed64_at(octets, at),
-        2 => span_at(octets, at),
-        5 => fixed32_at(octets, at),
-        _ => Err(WIRE_TYPE),
+        VARINT_TYPE => varint_value(octets, at),
+        FIXED64_TYPE => fixed64_at(octets, at),
+        SPAN_TYPE => span_at(octets, at),
+        FIXED32_TYPE => fixed32_at(octets, at),
+        _ => Err(WireRule::WireType),
     }
 }
 
-/// The varint at a place as a value.
+/// The varint at an offset as a value.
 #[tactic(auto, unfolding(crate::specs::FieldReading::varint_value_at))]
-fn varint_value(octets: &[u8], at: usize) -> Result<(WireValue, usize), u16>
+fn varint_value(octets: &[u8], at: usize) -> Result<(WireValue, usize), WireRule>
     requires { at ≤ length octets.now }
     ensures { result ≡ varint_value_at octets.now at }
 {
@@ -111,42 +107,42 @@ fn varint_value(octets: &[u8], at: usize) -> Result<(WireValue, usize), u16>
     Ok((WireValue::Varint(value), after))
 }
 
-/// The eight octets at a place.
+/// The eight octets at an offset.
 #[tactic(auto, unfolding(crate::specs::FieldReading::fixed64_at))]
-fn fixed64_at(octets: &[u8], at: usize) -> Result<(WireValue, usize), u16>
+fn fixed64_at(octets: &[u8], at: usize) -> Result<(WireValue, usize), WireRule>
     requires { at ≤ length octets.now }
     ensures { result ≡ fixed64_there octets.now at }
 {
     let rest = &octets[at..];
     if rest.len() < 8 {
-        return Err(CUT_SHORT);
+        return Err(WireRule::CutShort);
     }
     Ok((WireValue::Fixed64(number_of_octets(&rest[..8])), at + 8))
 }
 
-/// The octets that a varint at a place counts, behind it.
+/// The octets that a varint at an offset counts, after it.
 #[tactic(auto, unfolding(crate::specs::FieldReading::span_at))]
-fn span_at(octets: &[u8], at: usize) -> Result<(WireValue, usize), u16>
+fn span_at(octets: &[u8], at: usize) -> Result<(WireValue, usize), WireRule>
     requires { at ≤ length octets.now }
     ensures { result ≡ span_there octets.now at }
 {
     let (len, from) = varint_at(octets, at)?;
     if len > (octets.len() - from) as u64 {
-        return Err(CUT_SHORT);
+        return Err(WireRule::CutShort);
     }
     let to = from + len as usize;
     Ok((WireValue::Span { from, to }, to))
 }
 
-/// The four octets at a place.
+/// The four octets at an offset.
 #[tactic(auto, unfolding(crate::specs::FieldReading::fixed32_at))]
-fn fixed32_at(octets: &[u8], at: usize) -> Result<(WireValue, usize), u16>
+fn fixed32_at(octets: &[u8], at: usize) -> Result<(WireValue, usize), WireRule>
     requires { at ≤ length octets.now }
     ensures { result ≡ fixed32_there octets.now at }
 {
     let rest = &octets[at..];
     if rest.len() < 4 {
-        return Err(CUT_SHORT);
+        return Err(WireRule::CutShort);
     }
     Ok((
         WireValue::Fixed32(number_of_octets(&rest[..4]) as u32),

@@ -1,4 +1,4 @@
--- The octets behind the place are read.
+-- The octets after the offset are read.
 use Rattle.std.proofs.Common.{◌≡◌, ◌-◌, ◌*◌, ◌^◌, ◌<◌, drop, length}
 use Rattle.esi_base.specs.Parts.{whole}
 use Rattle.proto_wire.proofs.reading.number_of_octets.Given as goal

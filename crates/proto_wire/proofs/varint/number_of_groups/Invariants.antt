@@ -1,4 +1,4 @@
--- The groups behind the place are read.
+-- The groups after the offset are read.
 use Rattle.std.proofs.Common.{◌≡◌, ◌-◌, ◌*◌, ◌^◌, ◌<◌, drop, length}
 use Rattle.proto_wire.specs.Varint.{number_of_groups}
 use Rattle.proto_wire.proofs.varint.number_of_groups.Given as goal

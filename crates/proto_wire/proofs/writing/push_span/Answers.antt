@@ -1,4 +1,4 @@
--- The key, the length and the octets are added one behind another.
+-- The key, the length and the octets are added one after another.
 use Rattle.proto_wire.specs.WrittenLaws.{span_added}
 use Rattle.proto_wire.proofs.writing.push_span.Goals as goal
 

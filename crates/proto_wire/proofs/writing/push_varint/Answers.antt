@@ -9,7 +9,7 @@ loop-rest-init c = let h : c.args.value < 2 ^ 64 = omega arith in writing_begun 
 
 pub loop-rest-preserved : goal.loop-rest-preserved
 loop-rest-preserved c =
-    subst (λ xs. Writing c.args.out.now c.args.value xs (c.loop-rest.rest / 128)) (sym c.in_ok-push.ensures.pushed)
+    subst (λ xs. Writing c.args.out.now c.args.value xs (c.loop-rest.rest / 128)) (sym c.in_ok-add.ensures.added)
     (writing_more c.args.out.now c.args.value c.loop-rest.out c.loop-rest.rest c.loop-rest.invariant c.loop-rest-test.true)
 
 last_written : {A E : Type 0} (result : Result A E) (start : List ℕ) (value : ℕ) (out : List ℕ) (left : ℕ) (new : List ℕ) → Writing start value out left → left < 128
@@ -19,4 +19,4 @@ last_written (Err x) start value out left new w h e = tt
 
 pub returns-clause-written : goal.returns-clause-written
 returns-clause-written c =
-    last_written c.push-2.result c.args.out.now c.args.value c.loop-rest.out c.loop-rest.rest c.push-2.new.out c.loop-rest.invariant c.loop-rest-test.false c.push-2.ensures.pushed
+    last_written c.add-2.result c.args.out.now c.args.value c.loop-rest.out c.loop-rest.rest c.add-2.new.self c.loop-rest.invariant c.loop-rest-test.false c.add-2.ensures.added

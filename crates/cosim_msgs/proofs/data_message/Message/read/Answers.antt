@@ -1,6 +1,6 @@
 use Rattle.std.proofs.Common.{◌≡◌, ℕ, List, Ok, sym, refl}
 use Rattle.std.proofs.lemmas.Result.{err_from_is_err_and}
-use Rattle.cosim_msgs.specs.Shown.{message_of}
+use Rattle.cosim_msgs.specs.Views.{message_of}
 use Rattle.cosim_msgs.specs.Steps.{octets_or, message_step}
 use Rattle.cosim_msgs.specs.Values.{octets_as}
 use Rattle.proto_wire.specs.declared.field.WireField.{WireField}

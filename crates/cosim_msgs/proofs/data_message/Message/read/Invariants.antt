@@ -1,5 +1,5 @@
 use Rattle.std.proofs.Common.{◌≡◌, ◌≤◌, ◌-◌, length}
-use Rattle.cosim_msgs.specs.Shown.{message_of}
+use Rattle.cosim_msgs.specs.Views.{message_of}
 use Rattle.cosim_msgs.specs.Steps.{message_step}
 use Rattle.cosim_msgs.specs.Reading.{run}
 use Rattle.cosim_msgs.proofs.data_message.Message.read.Given as goal

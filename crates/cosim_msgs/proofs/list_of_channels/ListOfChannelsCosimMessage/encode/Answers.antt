@@ -5,4 +5,4 @@ use Rattle.cosim_msgs.proofs.list_of_channels.ListOfChannelsCosimMessage.encode.
 
 pub returns-clause-read_again : goal.returns-clause-read_again
 returns-clause-read_again c =
-    read_again c.push-written.result c.settle.result c.args.out.now c.push-written.new.out c.settle.new.out (list_spelling c.args.self.now) c.settle.ensures.same c.push-written.ensures.written c.settle.ensures.kept c.settle.ensures.small (λ fits texts. list_again c.args.self.now fits c.requires texts)
+    read_again c.push-written.result c.settle.result c.args.out.now c.push-written.new.out c.settle.new.out (list_spelling c.args.self.now) c.settle.ensures.same c.push-written.ensures.written c.settle.ensures.stays c.settle.ensures.small (λ fits texts. list_again c.args.self.now fits c.requires texts)

@@ -10,11 +10,11 @@ use Rattle.cosim_msgs.specs.declared.addressed_message.BorrowedAddressed.{Borrow
 abbrev pub message_of : List ℕ → Message
 message_of octets = record { octets = octets }
 
-abbrev pub shown_message : Bor (List ℕ) → Message
-shown_message octets = message_of octets.now
+abbrev pub message_view : Bor (List ℕ) → Message
+message_view octets = message_of octets.now
 
-abbrev pub shown_desc : BorrowedDesc → ChannelDesc
-shown_desc desc = record { name = desc.name.now; dir = desc.dir; ty = desc.ty.now }
+abbrev pub desc_view : BorrowedDesc → ChannelDesc
+desc_view desc = record { name = desc.name.now; dir = desc.dir; ty = desc.ty.now }
 
-abbrev pub shown_addressed : BorrowedAddressed → AddressedMessage
-shown_addressed addressed = record { channel_name = addressed.channel_name.now; message = message_of addressed.message.now }
+abbrev pub addressed_view : BorrowedAddressed → AddressedMessage
+addressed_view addressed = record { channel_name = addressed.channel_name.now; message = message_of addressed.message.now }
