@@ -1,8 +1,9 @@
--- Octets that are added one part behind the other.
+-- Octets that are added one part after the other.
 use Rattle.std.proofs.Common.{◌≡◌, ℕ, zero, suc, ◌+◌, ◌-◌, ◌*◌, ◌/◌, ◌%◌, ◌^◌, ◌<◌, ◌≤◌, List, [], ◌∷◌, ◌++◌, length, take, refl, ap, sym, ◌∙◌, arith}
 use Rattle.std.proofs.lemmas.Bool.{lt-ltb, le-ltb, cond-true, cond-false}
 use Rattle.std.proofs.lemmas.List.{append_assoc, append-nil, take_at}
 use Rattle.std.proofs.Math.Nat.{pow-succ'}
+use Rattle.hpack.specs.Integers.{full_prefix}
 use Rattle.hpack.specs.Encoding.{groups_of, integer_of}
 use Rattle.hpack.specs.Extends.{Extends}
 
@@ -41,7 +42,7 @@ unfolding groups_of
 groups_last zero rest low = refl
 groups_last (suc turns) rest low = cond-true _ _ _ (lt-ltb rest 128 low)
 
--- what was written, with the groups of the rest behind it, is all
+-- what was written, with the groups of the rest after it, is all
 pub record AreWritten (old now : List ℕ) (n rest : ℕ) : Type 0 where
   pub turns : ℕ
   pub whole : now ++ groups_of turns rest ≡ old ++ groups_of 4 n
@@ -64,15 +65,15 @@ one_written old now new n rest w high added =
 pub all_written : (old now new : List ℕ) (n rest : ℕ) → AreWritten old now n rest → rest < 128 → new ≡ now ++ rest ∷ [] → new ≡ old ++ groups_of 4 n
 all_written old now new n rest w low added = added ∙ ap (λ g. now ++ g) (sym (groups_last w.turns rest low)) ∙ w.whole
 
--- an integer in its prefix, and one behind it
-pub integer_short : (full n : ℕ) → n < full → integer_of full n ≡ n ∷ []
+-- an integer in its prefix, and one after it
+pub integer_short : (bits n : ℕ) → n < full_prefix bits → integer_of bits n ≡ n ∷ []
 unfolding integer_of
-integer_short full n low = cond-true _ _ _ (lt-ltb n full low)
+integer_short bits n low = cond-true _ _ _ (lt-ltb n (full_prefix bits) low)
 
-pub integer_long : (full n : ℕ) → full ≤ n → integer_of full n ≡ full ∷ groups_of 4 (n - full)
+pub integer_long : (bits n : ℕ) → full_prefix bits ≤ n → integer_of bits n ≡ full_prefix bits ∷ groups_of 4 (n - full_prefix bits)
 unfolding integer_of
-integer_long full n high = cond-false _ _ _ (le-ltb n full high)
+integer_long bits n high = cond-false _ _ _ (le-ltb n (full_prefix bits) high)
 
-pub long_written : (old now new : List ℕ) (full n : ℕ) → full ≤ n → now ≡ old ++ full ∷ [] → new ≡ now ++ groups_of 4 (n - full) → new ≡ old ++ integer_of full n
-long_written old now new full n high first groups =
-    groups ∙ ap (λ o. o ++ groups_of 4 (n - full)) first ∙ append_assoc old (full ∷ []) (groups_of 4 (n - full)) ∙ ap (λ o. old ++ o) (sym (integer_long full n high))
+pub long_written : (old now new : List ℕ) (bits n : ℕ) → full_prefix bits ≤ n → now ≡ old ++ full_prefix bits ∷ [] → new ≡ now ++ groups_of 4 (n - full_prefix bits) → new ≡ old ++ integer_of bits n
+long_written old now new bits n high first groups =
+    groups ∙ ap (λ o. o ++ groups_of 4 (n - full_prefix bits)) first ∙ append_assoc old (full_prefix bits ∷ []) (groups_of 4 (n - full_prefix bits)) ∙ ap (λ o. old ++ o) (sym (integer_long bits n high))

@@ -2,20 +2,17 @@
 use Rattle.std.proofs.Common.{◌≡◌, ℕ, ◌+◌, ◌-◌, ◌<◌, ◌≤◌, List, [], ◌∷◌, ◌++◌, length, ◌⊎◌, inl, inr, refl, ap, sym, subst, arith}
 use Rattle.std.proofs.lemmas.Bool.{le-leb, lt-leb, cond-true, cond-false, cases_lt}
 use Rattle.hpack.specs.declared.header.Header.{Header}
-use Rattle.hpack.specs.declared.representation.Representation.{Representation}
-use Rattle.hpack.specs.declared.representation.Representation.TheVariants.{Indexed, WithIndexing, WithoutIndexing, NeverIndexed, SizeUpdate}
-use Rattle.hpack.specs.Integers.{BreaksInteger}
-use Rattle.hpack.specs.Strings.{BreaksString, BreaksCode}
+use Rattle.hpack.specs.declared.stop.BlockRule.{BlockRule}
 use Rattle.hpack.specs.Tables.{Table, size_of, list_size, fitting}
-use Rattle.hpack.specs.Representations.{Listing, representation_of, BreaksLiteral, BreaksOf, BreaksRepresentation}
+use Rattle.hpack.specs.Representations.{Listing}
 use Rattle.hpack.specs.Blocks.{BreaksBlock}
 use Rattle.hpack.specs.BlockReading.{block_at}
 use Rattle.hpack.specs.Laws.{IsLongestFront, IsSmallBlock, HasReading, IsRefusal}
-use Rattle.hpack.proofs.PartLaws.{answered}
+use Rattle.hpack.proofs.ReaderLaws.{answered}
 use Rattle.hpack.proofs.BlockLaw.{block_found, block_read, block_broken, block_stops}
 use Rattle.hpack.proofs.TableLemmas.{list_size-cons}
 
--- the first entry fits, and the longest front of the others stands behind it
+-- the first entry fits, and the longest prefix of the others stands after it
 longer : (room : ℕ) (header : Header) (headers front : List Header) → size_of header ≤ room → IsLongestFront (room - size_of header) headers front → IsLongestFront room (header ∷ headers) (header ∷ front)
 longer room header headers front fits is = record {
   rest = is.rest;
@@ -76,13 +73,13 @@ one_reading before octets headers others after other one two =
     in
     (ap (λ l. l.headers) same, ap (λ l. l.table) same)
 
-pub one_refusal : (before : Table) (octets : List ℕ) (n other : ℕ) → BreaksBlock n before octets → BreaksBlock other before octets → n ≡ other
-one_refusal before octets n other one two = let a = block_stops before octets n one in let b = block_stops before octets other two in cc
+pub one_refusal : (before : Table) (octets : List ℕ) (rule other : BlockRule) → BreaksBlock rule before octets → BreaksBlock other before octets → rule ≡ other
+one_refusal before octets rule other one two = let a = block_stops before octets rule one in let b = block_stops before octets other two in cc
 
-pub never_both : (before : Table) (octets : List ℕ) (n : ℕ) → HasReading before octets → BreaksBlock n before octets → ⊥
-never_both before octets n has broken =
+pub never_both : (before : Table) (octets : List ℕ) (rule : BlockRule) → HasReading before octets → BreaksBlock rule before octets → ⊥
+never_both before octets rule has broken =
     let a = block_read before octets has.headers has.after has.reading.is_block has.reading.small in
-    let b = block_stops before octets n broken in
+    let b = block_stops before octets rule broken in
     cc
 
 pub one_of_both : (before : Table) (octets : List ℕ) → HasReading before octets ⊎ IsRefusal before octets
@@ -90,57 +87,5 @@ one_of_both before octets = elim (answered (block_at before octets)) [
   | inl read ↦
       let found = block_found before octets read.0.headers read.0.table read.1 in
       inl (record { headers = read.0.headers; after = read.0.table; reading = record { is_block = found.0; small = found.1 } })
-  | inr failed ↦ inr (record { number = failed.0; broken = block_broken before octets failed.0 failed.1 })
+  | inr failed ↦ inr (record { rule = failed.0; broken = block_broken before octets failed.0 failed.1 })
 ]
-
--- the numbers of the rules
-
-abbrev IsRule : ℕ → Type 0
-IsRule n = (711 ≤ n) × (n ≤ 716)
-
-integer_rule : (full n : ℕ) (octets : List ℕ) → BreaksInteger full n octets → IsRule n
-integer_rule full n octets h = let is = h.0 in (omega arith, omega arith)
-
-code_rule : (n : ℕ) (octets : List ℕ) → BreaksCode n octets → IsRule n
-code_rule n octets (inl h) = let is = h.0 in (omega arith, omega arith)
-code_rule n octets (inr h) = let is = h.0 in (omega arith, omega arith)
-
-string_rule : (n : ℕ) (octets : List ℕ) → BreaksString n octets → IsRule n
-string_rule n octets (inl h) = integer_rule 127 n octets h
-string_rule n octets (inr b) = elim b.fact [
-  | inl h ↦ let is = h.0 in (omega arith, omega arith)
-  | inr m ↦ code_rule n m.body m.broken
-]
-
-literal_rule : (full n : ℕ) (table : Table) (octets : List ℕ) → BreaksLiteral full table n octets → IsRule n
-literal_rule full n table octets (inl h) = integer_rule full n octets h
-literal_rule full n table octets (inr b) = elim b.fact [
-  | inl name ↦ elim name [
-    | inl text ↦ string_rule n b.rest text.1
-    | inr index ↦ let is = index.1.0 in (omega arith, omega arith)
-  ]
-  | inr value ↦ string_rule n value.rest value.fact
-]
-
-kind_rule : (kind : Representation) (old : Listing) (n : ℕ) (octets : List ℕ) → BreaksOf kind old n octets → IsRule n
-kind_rule Indexed old n octets (inl (inl h)) = integer_rule 127 n octets h
-kind_rule Indexed old n octets (inl (inr b)) = let is = b.fact.0 in (omega arith, omega arith)
-kind_rule Indexed old n octets (inr h) = let is = h.0 in (omega arith, omega arith)
-kind_rule WithIndexing old n octets (inl h) = literal_rule 63 n old.table octets h
-kind_rule WithIndexing old n octets (inr h) = let is = h.0 in (omega arith, omega arith)
-kind_rule WithoutIndexing old n octets (inl h) = literal_rule 15 n old.table octets h
-kind_rule WithoutIndexing old n octets (inr h) = let is = h.0 in (omega arith, omega arith)
-kind_rule NeverIndexed old n octets (inl h) = literal_rule 15 n old.table octets h
-kind_rule NeverIndexed old n octets (inr h) = let is = h.0 in (omega arith, omega arith)
-kind_rule SizeUpdate old n octets (inl h) = let is = h.0 in (omega arith, omega arith)
-kind_rule SizeUpdate old n octets (inr h) = elim h.1 [
-  | inl i ↦ integer_rule 31 n octets i
-  | inr b ↦ let is = b.0 in (omega arith, omega arith)
-]
-
-rule_of : (old : Listing) (n : ℕ) (octets : List ℕ) → BreaksRepresentation old n octets → IsRule n
-rule_of old n [] broken = absurd broken
-rule_of old n (octet ∷ octets) broken = kind_rule (representation_of octet) old n (octet ∷ octets) broken
-
-pub six_rules : (before : Table) (octets : List ℕ) (n : ℕ) → BreaksBlock n before octets → IsRule n
-six_rules before octets n b = rule_of (listing b.table b.headers) n b.rest b.broken

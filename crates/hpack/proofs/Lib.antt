@@ -5,9 +5,11 @@ mod FieldLaw
 mod IntegerLaw
 mod IntegerLoop
 mod LawProofs
-mod PartLaws
+mod PrefixLemmas
 mod ReadBackLaw
+mod ReaderLaws
 mod RepresentationLaw
+mod RuleLemmas
 mod StaticLemmas
 mod StringLaw
 mod TableLemmas

@@ -1,16 +1,18 @@
 -- What the encoder writes is a header block of the same headers.
 use Rattle.std.proofs.Common.{◌≡◌, ℕ, zero, suc, ◌+◌, ◌-◌, ◌/◌, ◌%◌, ◌^◌, ◌<◌, ◌≤◌, Bool, true, false, List, [], ◌∷◌, ◌++◌, length, inl, inr, refl, ap, sym, ◌∙◌, subst, arith}
+use Rattle.hpack.specs.declared.limits.TheConstants.{MAX_HEADER_LIST_SIZE, INTEGER_VALUES, STRING_BITS}
 use Rattle.std.proofs.Common.{map}
 use Rattle.std.proofs.lemmas.Bool.{le-ltb, lt-leb, cond-false, cases_lt}
 use Rattle.std.proofs.lemmas.List.{append_assoc, append-nil}
 use Rattle.std.proofs.Math.Nat.{mod-eq_of_lt}
+use Rattle.std.proofs.lemmas.Nat.{pow_pos}
 use Rattle.hpack.specs.declared.header.Header.{Header}
-use Rattle.hpack.specs.Integers.{digits, IsGroup, IsInteger}
+use Rattle.hpack.specs.Integers.{full_prefix, digits, IsGroup, IsInteger}
 use Rattle.hpack.specs.Strings.{first_bit, IsString}
 use Rattle.hpack.specs.Tables.{size_of, list_size, new_table}
 use Rattle.hpack.specs.Representations.{Listing, with_header, IsRepresentation}
 use Rattle.hpack.specs.Blocks.{AreRepresentations, IsBlock}
-use Rattle.hpack.specs.Encoding.{Writing, table_behind, groups_of, integer_of, string_of, plain_field, plain_fields, encoded_block, behind_block}
+use Rattle.hpack.specs.Encoding.{Writing, table_after, groups_of, integer_of, string_of, plain_field, plain_fields, encoded_block, writing_after}
 use Rattle.hpack.proofs.EncodingLemmas.{groups_last, power_suc, integer_short, integer_long}
 use Rattle.hpack.proofs.TableLemmas.{list_size-cons}
 
@@ -47,42 +49,44 @@ groups_are (suc count) n low = elim (cases_lt n 128) [
       (record { group = grown (128 + n % 128) (groups_of count (n / 128)) (omega arith) more.group; few = omega arith; value = omega arith })
 ]
 
-integer_back : (full n : ℕ) → n < 2 ^ 32 → IsInteger full (integer_of full n) n
-integer_back full n low = elim (cases_lt n full) [
+integer_back : (bits n : ℕ) → n < INTEGER_VALUES → IsInteger bits (integer_of bits n) n
+integer_back bits n low = elim (cases_lt n (full_prefix bits)) [
   | inl short ↦
-      let below : n < full + 1 = omega arith in
+      let some = pow_pos bits in
+      let below : n < 2 ^ bits = omega arith in
       let same = mod-eq_of_lt below in
-      let is : IsInteger full (n ∷ []) n = inl (record { below = omega arith; alone = refl; value = sym same }) in
-      subst (λ o. IsInteger full o n) (sym (integer_short full n short)) is
+      let is : IsInteger bits (n ∷ []) n = inl (record { below = omega arith; alone = refl; value = sym same }) in
+      subst (λ o. IsInteger bits o n) (sym (integer_short bits n short)) is
   | inr long ↦
-      let below : full < full + 1 = omega arith in
+      let some = pow_pos bits in
+      let below : full_prefix bits < 2 ^ bits = omega arith in
       let same = mod-eq_of_lt below in
-      let groups = groups_are 4 (n - full) (omega arith) in
+      let groups = groups_are 4 (n - full_prefix bits) (omega arith) in
       let value = groups.value in
-      let is : IsInteger full (full ∷ groups_of 4 (n - full)) n = inr (record { full_prefix = omega arith; group = groups.group; few = groups.few; value = omega arith; small = low }) in
-      subst (λ o. IsInteger full o n) (sym (integer_long full n long)) is
+      let is : IsInteger bits (full_prefix bits ∷ groups_of 4 (n - full_prefix bits)) n = inr (record { is_full = omega arith; group = groups.group; few = groups.few; value = omega arith; small = low }) in
+      subst (λ o. IsInteger bits o n) (sym (integer_long bits n long)) is
 ]
 
 -- a string that is no Huffman code begins with a bit that is 0
-not_coded : (n : ℕ) → false ≡ first_bit (integer_of 127 n)
-not_coded n = elim (cases_lt n 127) [
-  | inl short ↦ sym (ap first_bit (integer_short 127 n short) ∙ lt-leb 128 n (omega arith))
-  | inr long ↦ sym (ap first_bit (integer_long 127 n long))
+not_coded : (n : ℕ) → false ≡ first_bit (integer_of STRING_BITS n)
+not_coded n = elim (cases_lt n (full_prefix STRING_BITS)) [
+  | inl short ↦ sym (ap first_bit (integer_short STRING_BITS n short) ∙ lt-leb 128 n (omega arith))
+  | inr long ↦ sym (ap first_bit (integer_long STRING_BITS n long))
 ]
 
-string_back : (text : List ℕ) → length text < 2 ^ 32 → IsString (string_of text) text
+string_back : (text : List ℕ) → length text < INTEGER_VALUES → IsString (string_of text) text
 unfolding string_of
 string_back text low = record {
-  front = integer_of 127 (length text);
+  front = integer_of STRING_BITS (length text);
   rest = text;
   first = record { coded = false; count = length text };
   whole = refl;
-  is_first = record { coded = not_coded (length text); count = integer_back 127 (length text) low };
+  is_first = record { coded = not_coded (length text); count = integer_back STRING_BITS (length text) low };
   is_second = record { counted = refl; spelled = refl };
 }
 
 -- a field is read as a literal without indexing
-field_back : (old : Listing) (header : Header) → size_of header ≤ 16384 → IsRepresentation old (plain_field header) (with_header old header old.table)
+field_back : (old : Listing) (header : Header) → size_of header ≤ MAX_HEADER_LIST_SIZE → IsRepresentation old (plain_field header) (with_header old header old.table)
 unfolding plain_field
 field_back old header small = record {
   header = header;
@@ -104,7 +108,7 @@ field_back old header small = record {
   joins = refl;
 }
 
-fields_back : (headers : List Header) (old : Listing) → list_size headers ≤ 16384
+fields_back : (headers : List Header) (old : Listing) → list_size headers ≤ MAX_HEADER_LIST_SIZE
     → AreRepresentations (map plain_field headers) old (plain_fields headers) (record { headers = old.headers ++ headers; table = old.table })
 fields_back [] old small = (refl, ap (λ hs. record { headers = hs; table = old.table }) (sym (append-nil old.headers)))
 fields_back (header ∷ headers) old small =
@@ -120,10 +124,10 @@ fields_back (header ∷ headers) old small =
     )
 
 update_back : IsRepresentation (record { headers = []; table = new_table }) (32 ∷ []) (record { headers = []; table = record { entries = []; limit = 0 } })
-update_back = record { limit = 0; at_start = refl; is_limit = inl (record { below = omega arith; alone = refl; value = refl }); within = omega arith; resizes = refl }
+update_back = record { limit = 0; at_start = refl; is_limit = inl (record { below = omega arith; alone = refl; value = refl }); small = omega arith; resizes = refl }
 
-block_of : (begun : Bool) (headers : List Header) → list_size headers ≤ 16384
-    → IsBlock (table_behind (record { begun = begun })) (encoded_block (record { begun = begun }) headers) headers (record { entries = []; limit = 0 })
+block_of : (begun : Bool) (headers : List Header) → list_size headers ≤ MAX_HEADER_LIST_SIZE
+    → IsBlock (table_after (record { begun = begun })) (encoded_block (record { begun = begun }) headers) headers (record { entries = []; limit = 0 })
 block_of true headers small = record {
   parts = map plain_field headers;
   are_representations = fields_back headers (record { headers = []; table = record { entries = []; limit = 0 } }) small;
@@ -134,6 +138,6 @@ block_of false headers small = record {
       (plain_fields headers, record { headers = []; table = record { entries = []; limit = 0 } }, refl, update_back, fields_back headers (record { headers = []; table = record { entries = []; limit = 0 } }) small);
 }
 
-pub block_back : (writing : Writing) (headers : List Header) → list_size headers ≤ 16384
-    → IsBlock (table_behind writing) (encoded_block writing headers) headers (table_behind (behind_block writing headers))
+pub block_back : (writing : Writing) (headers : List Header) → list_size headers ≤ MAX_HEADER_LIST_SIZE
+    → IsBlock (table_after writing) (encoded_block writing headers) headers (table_after (writing_after writing headers))
 block_back writing headers small = block_of writing.begun headers small

@@ -1,11 +1,13 @@
--- Header blocks (RFC 7541, section 3): representations, one behind the other.
+-- Header blocks (RFC 7541, section 3): representations, one after the other.
 use Rattle.std.specs.Prelude.{◌≡◌, ℕ, ◌≤◌, List, [], ◌∷◌, ◌++◌}
+use Rattle.hpack.specs.declared.limits.TheConstants.{MAX_HEADER_LIST_SIZE}
+use Rattle.hpack.specs.declared.stop.BlockRule.{BlockRule}
 use Rattle.hpack.specs.declared.header.Header.{Header}
 use Rattle.hpack.specs.Representations.{Listing, IsRepresentation, BreaksRepresentation}
 use Rattle.hpack.specs.Tables.{Table, list_size}
 
 -- the octets are the parts, and each part is a representation, which turns the headers and the table that
--- were there before it into those behind it
+-- were there before it into those after it
 abbrev pub AreRepresentations : List (List ℕ) → Listing → List ℕ → Listing → Type 0
 AreRepresentations [] old octets new = (octets ≡ []) × (old ≡ new)
 AreRepresentations (part ∷ parts) old octets new =
@@ -16,14 +18,14 @@ pub record IsBlock (before : Table) (octets : List ℕ) (headers : List Header) 
   pub parts : List (List ℕ)
   pub are_representations : AreRepresentations parts (record { headers = []; table = before }) octets (record { headers = headers; table = after })
 
--- The octets break the rule n first: what stands before the place is a header block, of a list of at most
+-- The octets break the rule first: what stands before is a header block, of a list of at most
 -- 16,384, and the representation with which the rest begins breaks the rule.
-pub record BreaksBlock (n : ℕ) (before : Table) (octets : List ℕ) : Type 0 where
+pub record BreaksBlock (rule : BlockRule) (before : Table) (octets : List ℕ) : Type 0 where
   pub front : List ℕ
   pub rest : List ℕ
   pub headers : List Header
   pub table : Table
   pub whole : octets ≡ front ++ rest
   pub is_block : IsBlock before front headers table
-  pub within : list_size headers ≤ 16384
-  pub broken : BreaksRepresentation (record { headers = headers; table = table }) n rest
+  pub small : list_size headers ≤ MAX_HEADER_LIST_SIZE
+  pub broken : BreaksRepresentation (record { headers = headers; table = table }) rule rest

@@ -1,10 +1,12 @@
 -- What holds of tables and header blocks, whatever reads them.
 use Rattle.std.specs.Prelude.{◌≡◌, ℕ, ◌≤◌, List, ◌++◌, length}
+use Rattle.hpack.specs.declared.limits.TheConstants.{MAX_HEADER_LIST_SIZE}
+use Rattle.hpack.specs.declared.stop.BlockRule.{BlockRule}
 use Rattle.hpack.specs.declared.header.Header.{Header}
 use Rattle.hpack.specs.Tables.{Table, list_size}
 use Rattle.hpack.specs.Blocks.{IsBlock, BreaksBlock}
 
--- the longest front of a list whose size is at most `room`
+-- the longest prefix of a list whose size is at most `room`
 pub record IsLongestFront (room : ℕ) (all front : List Header) : Type 0 where
   pub rest : List Header
   pub whole : all ≡ front ++ rest
@@ -14,7 +16,7 @@ pub record IsLongestFront (room : ℕ) (all front : List Header) : Type 0 where
 -- the octets are a header block of headers, of a size of at most 16,384
 pub record IsSmallBlock (before : Table) (octets : List ℕ) (headers : List Header) (after : Table) : Type 0 where
   pub is_block : IsBlock before octets headers after
-  pub small : list_size headers ≤ 16384
+  pub small : list_size headers ≤ MAX_HEADER_LIST_SIZE
 
 -- some headers are those of the block
 pub record HasReading (before : Table) (octets : List ℕ) : Type 0 where
@@ -24,5 +26,5 @@ pub record HasReading (before : Table) (octets : List ℕ) : Type 0 where
 
 -- some rule is broken
 pub record IsRefusal (before : Table) (octets : List ℕ) : Type 0 where
-  pub number : ℕ
-  pub broken : BreaksBlock number before octets
+  pub rule : BlockRule
+  pub broken : BreaksBlock rule before octets

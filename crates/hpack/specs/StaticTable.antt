@@ -1,5 +1,6 @@
 -- The static table (RFC 7541, section 2.3.1 and Appendix A).
 use Rattle.std.specs.Prelude.{◌≡◌, ℕ, List, [], ◌∷◌, length, codes, refl}
+use Rattle.hpack.specs.declared.limits.TheConstants.{STATIC_ENTRIES}
 use Rattle.hpack.specs.declared.header.Header.{Header}
 
 -- a header field of a name and a value
@@ -72,6 +73,6 @@ static_table =
     ∷ field (codes "www-authenticate") []
     ∷ []
 
-pub length_static_table : length static_table ≡ 61
+pub length_static_table : length static_table ≡ STATIC_ENTRIES
 unfolding static_table
 length_static_table = refl

@@ -1,17 +1,19 @@
 //! The decoder of the header blocks that a peer sends.
-ghost use Rattle.std.specs.Prelude.{◌≡◌, ◌≤◌, ◌⊎◌, ℕ, None, List as Listed, IfOk, IfErr, IfNone, IfSome, IsErrOf};
+ghost use Rattle.std.specs.Prelude.{◌≡◌, ◌≤◌, ◌⊎◌, None, Ok, List as Listed, IfOk, IfNone, IfSome, IsErrOf};
 ghost use Rattle.hpack.specs.declared.header.Header.{Header};
 ghost use Rattle.hpack.specs.Tables.{Table, new_table, list_size};
 ghost use Rattle.hpack.specs.Blocks.{IsBlock, BreaksBlock};
-ghost use Rattle.hpack.specs.Decoding.{new_decoding, failure, IsRead};
-ghost use Rattle.hpack.specs.Reading.{Gives};
+ghost use Rattle.hpack.specs.Decoding.{new_decoding, failure};
+ghost use Rattle.esi_base.specs.Answers.{AnswersAs, ReadsAs};
+ghost use Rattle.esi_base.specs.declared.stop.Stop.TheVariants.{Refused, NoMemory as OutOfMemory};
 ghost use Rattle.hpack.specs.BlockReading.{block_at, to_end};
 
 use crate::dynamic_table::DynamicTable;
 use crate::header::Headers;
 use crate::header_list::HeaderList;
+use crate::limits::MAX_HEADER_LIST_SIZE;
 use crate::representation::representation_at;
-use crate::stop::HpackStop;
+use crate::stop::{BlockRule, HpackStop};
 use esi_base::NoMemory;
 use std::alloc::Global;
 use std::marker::Model;
@@ -34,7 +36,7 @@ impl Model for Decoder {
 }
 
 impl Decoder {
-    /// A decoder with a table without entries, of a maximum size of 4,096.
+    /// A decoder with a table without entries, of a maximum size of `MAX_TABLE_SIZE`.
     pub fn new(alloc: Global) -> Result<Decoder, NoMemory>
         ensures { IfOk result (λ decoder. decoder ≡ new_decoding) }
     {
@@ -45,9 +47,9 @@ impl Decoder {
         })
     }
 
-    /// The headers of a block, in order, of a size of at most 16,384. The block is one whole header
-    /// block, whatever frames it came in; each block has to be read, wanted or not, since it changes the
-    /// table. After a refusal, or for want of memory, each later call answers the same.
+    /// The headers of a block, in order, of a size of at most `MAX_HEADER_LIST_SIZE`. The block is one
+    /// whole header block, whatever frames it came in; each block has to be read, wanted or not, since
+    /// it changes the table. After a refusal, or out of memory, each later call answers the same.
     pub fn block(&mut self, block: &[u8]) -> Result<Headers, HpackStop>
         // A decoder that has failed answers the same.
         ensures failed { IfSome self.old.failed (λ stop.
@@ -56,25 +58,25 @@ impl Decoder {
         // It reads exactly the header blocks whose list is small enough, and has the table after.
         ensures found { IfNone self.old.failed (IfOk result (λ headers.
             IsBlock self.old.table block.now headers self.new.table
-            × (list_size headers ≤ 16384))) }
+            × (list_size headers ≤ MAX_HEADER_LIST_SIZE))) }
         ensures only { (headers : Listed Header) (after : Table) → self.old.failed ≡ None
-            → IsBlock self.old.table block.now headers after → list_size headers ≤ 16384
-            → IsRead headers after result self.new.table }
+            → IsBlock self.old.table block.now headers after → list_size headers ≤ MAX_HEADER_LIST_SIZE
+            → ReadsAs (λ read. read) (Ok (headers, after)) result self.new.table }
 
-        // It tells exactly the rule that the block breaks first.
-        ensures refused { (n : ℕ) → self.old.failed ≡ None
-            → IsErrOf result (HpackStop.Refused n) → BreaksBlock n self.old.table block.now }
-        ensures refused_only { (n : ℕ) → self.old.failed ≡ None
-            → BreaksBlock n self.old.table block.now
-            → IsErrOf result (HpackStop.Refused n) ⊎ IsErrOf result HpackStop.NoMemory }
+        // It reports exactly the rule that the block breaks first.
+        ensures refused { (rule : BlockRule) → self.old.failed ≡ None
+            → IsErrOf result (Refused rule) → BreaksBlock rule self.old.table block.now }
+        ensures refused_only { (rule : BlockRule) → self.old.failed ≡ None
+            → BreaksBlock rule self.old.table block.now
+            → IsErrOf result (Refused rule) ⊎ IsErrOf result OutOfMemory }
 
         // It keeps why it fails.
         ensures fails { IfNone self.old.failed (self.new.failed ≡ failure result) }
 
         // The answer is that of reading the block octet by octet.
         ensures exact { IfNone self.old.failed
-            (Gives (λ headers. record { headers = headers; table = self.new.table })
-            result (block_at self.old.table block.now)) }
+            (AnswersAs (λ headers. record { headers = headers; table = self.new.table })
+            (block_at self.old.table block.now) result) }
     {
         if let Some(stop) = self.failed {
             return Err(stop);
@@ -95,24 +97,26 @@ fn failure(read: &Result<Headers, HpackStop>) -> Option<HpackStop>
     }
 }
 
+/// Reads a block with a table, which becomes the one after it.
 #[tactic(auto, unfolding(crate::specs::BlockReading::block_at))]
 fn read_block(alloc: Global, table: &mut DynamicTable, block: &[u8]) -> Result<Headers, HpackStop>
-    ensures { Gives (λ headers. record { headers = headers; table = table.new })
-        result (block_at table.old block.now) }
+    ensures { AnswersAs (λ headers. record { headers = headers; table = table.new })
+        (block_at table.old block.now) result }
 {
     let mut list = HeaderList::new(alloc);
     read_to_end(alloc, &mut list, table, block)?;
     Ok(list.into_headers())
 }
 
+/// Reads representations to the end of octets.
 fn read_to_end(
     alloc: Global,
     list: &mut HeaderList,
     table: &mut DynamicTable,
     octets: &[u8],
 ) -> Result<(), HpackStop>
-    ensures { Gives (λ _. record { headers = list.new; table = table.new })
-        result (to_end (record { headers = list.old; table = table.old }) octets.now) }
+    ensures { AnswersAs (λ _. record { headers = list.new; table = table.new })
+        (to_end (record { headers = list.old; table = table.old }) octets.now) result }
 {
     let mut rest = octets;
     while !rest.is_empty() {

@@ -1,17 +1,14 @@
 //! The dynamic table (RFC 7541, sections 2.3.2 and 4).
-ghost use Rattle.std.specs.Prelude.{◌≡◌, ◌<◌, ◌≤◌, ◌+◌, ◌^◌, OnOk, IfOk, [], slice_get};
+ghost use Rattle.std.specs.Prelude.{◌≡◌, ◌<◌, ◌≤◌, ◌+◌, OnOk, IfOk, [], slice_get};
 ghost use Rattle.std.specs.Option.{option_copied};
-ghost use Rattle.hpack.specs.Tables.{size_of, list_size, fitting, inserted, resized, new_table};
+ghost use Rattle.hpack.specs.Tables.{size_of, list_size, fitting, table_with, table_limited, new_table};
 
 use crate::header::Header;
+use crate::limits::{MAX_HEADER_LIST_SIZE, MAX_TABLE_SIZE};
 use esi_base::NoMemory;
 use std::alloc::Global;
 use std::collections::VecDeque;
 use std::marker::Model;
-
-/// The size of the table with which a connection begins, and the greatest that a size update may set
-/// (RFC 9113, section 6.5.2: SETTINGS_HEADER_TABLE_SIZE).
-pub(crate) const MAX_LIMIT: usize = 4096;
 
 /// The entries that literals with indexing added, the newest first, as many as the maximum size lets
 /// stay.
@@ -40,11 +37,11 @@ impl DynamicTable {
         DynamicTable {
             entries: VecDeque::new(alloc),
             size: 0,
-            limit: MAX_LIMIT,
+            limit: MAX_TABLE_SIZE,
         }
     }
 
-    /// The entry at a place, which counts from 0 at the newest.
+    /// The entry at an index, which counts from 0 at the newest.
     pub(crate) fn get(&self, at: usize) -> Option<&Header>
         ensures { option_copied result ≡ slice_get self.now.entries at }
     {
@@ -53,8 +50,8 @@ impl DynamicTable {
 
     /// Adds an entry and evicts the oldest ones (RFC 7541, section 4.4).
     pub(crate) fn insert(&mut self, header: Header) -> Result<(), NoMemory>
-        requires { size_of header ≤ 16384 }
-        ensures { OnOk result (self.new ≡ inserted header self.old) }
+        requires { size_of header ≤ MAX_HEADER_LIST_SIZE }
+        ensures { OnOk result (self.new ≡ table_with header self.old) }
     {
         let size = self.size + header.size();
         self.entries.push_front(header)?;
@@ -64,22 +61,22 @@ impl DynamicTable {
 
     /// Sets the maximum size and evicts the oldest entries (RFC 7541, section 4.3).
     pub(crate) fn resize(&mut self, limit: usize)
-        requires { limit ≤ MAX_LIMIT }
-        ensures { self.new ≡ resized limit self.old }
+        requires { limit ≤ MAX_TABLE_SIZE }
+        ensures { self.new ≡ table_limited limit self.old }
     {
         self.limit = limit;
         self.size = evict(&mut self.entries, self.size, limit);
     }
 }
 
-/// Takes the oldest entries out until the size is at most the limit; what size stays.
-fn evict(entries: &mut VecDeque<Header>, counted: usize, limit: usize) -> usize
-    requires { counted ≡ list_size entries.old.items }
-    ensures kept { entries.new.items ≡ fitting limit entries.old.items }
-    ensures counted { result ≡ list_size entries.new.items }
-    ensures within { result ≤ limit }
+/// Takes the oldest entries out until the size is at most the limit, and gives the size after that.
+fn evict(entries: &mut VecDeque<Header>, before: usize, limit: usize) -> usize
+    requires { before ≡ list_size entries.old.items }
+    ensures entries { entries.new.items ≡ fitting limit entries.old.items }
+    ensures size { result ≡ list_size entries.new.items }
+    ensures small { result ≤ limit }
 {
-    let mut size = counted;
+    let mut size = before;
     while size > limit {
         let Some(oldest) = entries.pop_back() else {
             return 0;

@@ -3,9 +3,12 @@ ghost use Rattle.std.specs.Prelude.{◌≡◌, ◌<◌, ◌≤◌, ◌^◌, ◌+
 ghost use Rattle.hpack.specs.Tables.{size_of, list_size};
 ghost use Rattle.hpack.specs.Blocks.{IsBlock};
 ghost use Rattle.hpack.specs.Extends.{Extends};
-ghost use Rattle.hpack.specs.Encoding.{new_writing, limited, encoded_block, behind_block, table_behind, update_due, plain_fields, plain_field, string_of, integer_of, groups_of};
+ghost use Rattle.hpack.specs.Integers.{full_prefix};
+ghost use Rattle.hpack.specs.Encoding.{new_writing, with_peer_limit, encoded_block, writing_after, table_after, update_due, plain_fields, plain_field, string_of, integer_of, groups_of};
 
 use crate::header::{Header, Headers};
+use crate::integer::full_prefix;
+use crate::limits::{MAX_HEADER_LIST_SIZE, STRING_BITS};
 use esi_base::{NoMemory, Octets};
 use std::alloc::Global;
 use std::marker::Model;
@@ -23,6 +26,7 @@ pub struct Encoder {
 }
 
 impl Model for Encoder {
+    ghost use Rattle.hpack.specs.Integers.{full_prefix};
     ghost use Rattle.hpack.specs.Encoding.{Writing};
 
     ghost Value = { Writing };
@@ -38,23 +42,23 @@ impl Encoder {
         Ok(Encoder { begun: false })
     }
 
-    /// Tells the maximum size of the table that the peer allows (SETTINGS_HEADER_TABLE_SIZE). It takes
+    /// Takes the maximum size of the table that the peer allows (SETTINGS_HEADER_TABLE_SIZE). It takes
     /// no memory, and leaves what is written unchanged, since no entry is ever added.
     pub fn limit(&mut self, peer: u32)
-        ensures { self.new ≡ limited peer self.old }
+        ensures { self.new ≡ with_peer_limit peer self.old }
     {
         let _ = peer;
     }
 
-    /// Adds at the end of `out` the block of headers, whose size is at most 16,384. For want of memory,
-    /// and for no other cause, it fails and leaves the encoder and `out` as they were.
+    /// Adds at the end of `out` the block of headers. It fails only when it runs out of memory, and then
+    /// leaves the encoder and `out` as they were.
     pub fn block(&mut self, headers: &Headers, out: &mut Octets) -> Result<(), NoMemory>
-        requires { list_size headers.now ≤ 16384 }
+        requires { list_size headers.now ≤ MAX_HEADER_LIST_SIZE }
         ensures written { OnOk result (out.new ≡ out.old ++ encoded_block self.old headers.now) }
-        ensures behind { OnOk result (self.new ≡ behind_block self.old headers.now) }
+        ensures after { OnOk result (self.new ≡ writing_after self.old headers.now) }
         // What it adds is read back as the same headers, and leaves the peer's table as the encoder's.
-        ensures read_back { IsBlock (table_behind self.old) (encoded_block self.old headers.now)
-            headers.now (table_behind (behind_block self.old headers.now)) }
+        ensures read_back { IsBlock (table_after self.old) (encoded_block self.old headers.now)
+            headers.now (table_after (writing_after self.old headers.now)) }
         ensures unchanged { OnErr result ((out.new ≡ out.old) × (self.new ≡ self.old)) }
     {
         let end = out.len();
@@ -71,11 +75,12 @@ impl Encoder {
     }
 }
 
+/// Writes the block of an encoder that has written a block before, or none.
 fn write_block(begun: bool, headers: &[Header], out: &mut Octets) -> Result<(), NoMemory>
-    requires { list_size headers.now ≤ 16384 }
+    requires { list_size headers.now ≤ MAX_HEADER_LIST_SIZE }
     ensures written { OnOk result (out.new
         ≡ out.old ++ (update_due (record { begun = begun }) ++ plain_fields headers.now)) }
-    ensures kept { OnErr result (Extends out.old out.new) }
+    ensures extends { OnErr result (Extends out.old out.new) }
 {
     if !begun {
         write_octet(UPDATE_TO_ZERO, out)?;
@@ -83,10 +88,11 @@ fn write_block(begun: bool, headers: &[Header], out: &mut Octets) -> Result<(), 
     write_fields(headers, out)
 }
 
+/// Writes headers, each as a literal without indexing.
 fn write_fields(headers: &[Header], out: &mut Octets) -> Result<(), NoMemory>
-    requires { list_size headers.now ≤ 16384 }
+    requires { list_size headers.now ≤ MAX_HEADER_LIST_SIZE }
     ensures written { OnOk result (out.new ≡ out.old ++ plain_fields headers.now) }
-    ensures kept { OnErr result (Extends out.old out.new) }
+    ensures extends { OnErr result (Extends out.old out.new) }
 {
     for header in headers {
         match write_field(header, out) {
@@ -99,9 +105,9 @@ fn write_fields(headers: &[Header], out: &mut Octets) -> Result<(), NoMemory>
 
 #[tactic(auto, unfolding(crate::specs::Encoding::plain_field))]
 fn write_field(header: &Header, out: &mut Octets) -> Result<(), NoMemory>
-    requires { size_of header.now ≤ 16384 }
+    requires { size_of header.now ≤ MAX_HEADER_LIST_SIZE }
     ensures written { OnOk result (out.new ≡ out.old ++ plain_field header.now) }
-    ensures kept { OnErr result (Extends out.old out.new) }
+    ensures extends { OnErr result (Extends out.old out.new) }
 {
     write_octet(LITERAL_OF_NEW_NAME, out)?;
     write_string(header.name.as_slice(), out)?;
@@ -113,20 +119,20 @@ fn write_field(header: &Header, out: &mut Octets) -> Result<(), NoMemory>
 fn write_string(text: &[u8], out: &mut Octets) -> Result<(), NoMemory>
     requires { length text.now < 2 ^ 32 }
     ensures written { OnOk result (out.new ≡ out.old ++ string_of text.now) }
-    ensures kept { OnErr result (Extends out.old out.new) }
+    ensures extends { OnErr result (Extends out.old out.new) }
 {
-    write_integer(127, text.len() as u32, out)?;
+    write_integer(STRING_BITS, text.len() as u32, out)?;
     out.push_all(text)?;
     Ok(())
 }
 
-/// An integer in a prefix whose bits are all ones at `full`, behind bits that are 0 (RFC 7541, section
-/// 5.1).
-fn write_integer(full: u8, n: u32, out: &mut Octets) -> Result<(), NoMemory>
-    requires { full < 128 }
-    ensures written { OnOk result (out.new ≡ out.old ++ integer_of full n) }
-    ensures kept { OnErr result (Extends out.old out.new) }
+/// An integer in a prefix of so many bits, after bits that are 0 (RFC 7541, section 5.1).
+fn write_integer(bits: u32, n: u32, out: &mut Octets) -> Result<(), NoMemory>
+    requires { bits < 8 }
+    ensures written { OnOk result (out.new ≡ out.old ++ integer_of bits n) }
+    ensures extends { OnErr result (Extends out.old out.new) }
 {
+    let full = full_prefix(bits);
     if n < u32::from(full) {
         return write_octet(n as u8, out);
     }
@@ -137,7 +143,7 @@ fn write_integer(full: u8, n: u32, out: &mut Octets) -> Result<(), NoMemory>
 /// Seven bits an octet, the least significant first.
 fn write_groups(n: u32, out: &mut Octets) -> Result<(), NoMemory>
     ensures written { OnOk result (out.new ≡ out.old ++ groups_of 4 n) }
-    ensures kept { OnErr result (Extends out.old out.new) }
+    ensures extends { OnErr result (Extends out.old out.new) }
 {
     let mut rest = n;
     while rest >= 128 {
@@ -151,10 +157,7 @@ fn write_groups(n: u32, out: &mut Octets) -> Result<(), NoMemory>
 
 fn write_octet(octet: u8, out: &mut Octets) -> Result<(), NoMemory>
     ensures written { OnOk result (out.new ≡ out.old ++ octet ∷ []) }
-    ensures kept { OnErr result (out.new ≡ out.old) }
+    ensures extends { OnErr result (out.new ≡ out.old) }
 {
-    match out.push(octet) {
-        Ok(()) => Ok(()),
-        Err(_octet) => Err(NoMemory),
-    }
+    out.add(octet)
 }

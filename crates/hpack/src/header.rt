@@ -2,11 +2,9 @@
 ghost use Rattle.std.specs.Prelude.{◌≡◌, ◌<◌, ◌^◌, nat_le, IfOk, if◌then◌else◌};
 ghost use Rattle.hpack.specs.Tables.{size_of};
 
+use crate::limits::ENTRY_OVERHEAD;
 use esi_base::{List, NoMemory, Octets};
 use std::alloc::Global;
-
-/// What each entry of a table counts beside its name and value (RFC 7541, section 4.1).
-const ENTRY_OVERHEAD: usize = 32;
 
 /// A header field: its name and its value, both any octets.
 #[derive(Debug, Drop)]

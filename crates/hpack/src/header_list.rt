@@ -1,22 +1,17 @@
 //! The headers that a block has had so far.
 ghost use Rattle.std.specs.Prelude.{◌≡◌, ◌≤◌, [], OnOk};
-ghost use Rattle.hpack.specs.Reading.{Gives};
-ghost use Rattle.hpack.specs.RepresentationReading.{listed, is_empty};
+ghost use Rattle.esi_base.specs.Answers.{AnswersAs};
+ghost use Rattle.hpack.specs.RepresentationReading.{list_with, is_empty};
 ghost use Rattle.hpack.specs.Tables.{size_of, list_size};
 
 use crate::header::{Header, Headers};
-use crate::stop::HpackStop;
-use esi_base::List;
+use crate::limits::MAX_HEADER_LIST_SIZE;
+use crate::stop::{BlockRule, HpackStop};
+use esi_base::{List, Stop};
 use std::alloc::Global;
 use std::marker::Model;
 
-/// The greatest size of a header list.
-pub(crate) const MAX_LIST_SIZE: usize = 16384;
-
-/// The header list is larger than that.
-const LIST_TOO_LARGE: u16 = 716;
-
-/// Headers of a size of at most `MAX_LIST_SIZE`.
+/// Headers of a size of at most `MAX_HEADER_LIST_SIZE`.
 #[derive(Debug, Drop)]
 pub(crate) struct HeaderList {
     headers: Headers,
@@ -27,12 +22,13 @@ impl Model for HeaderList {
     ghost use Rattle.std.specs.Prelude.{List, ◌≡◌, ◌+◌};
     ghost use Rattle.hpack.specs.declared.header.Header.{Header as Field};
     ghost use Rattle.hpack.specs.Tables.{list_size};
+    ghost use Rattle.hpack.specs.declared.limits.TheConstants.{MAX_HEADER_LIST_SIZE};
 
     ghost Value = { List Field };
 
     ghost view = { λ l. l.headers };
 
-    ghost invariant = { λ l. list_size l.headers + l.room ≡ 16384 };
+    ghost invariant = { λ l. list_size l.headers + l.room ≡ MAX_HEADER_LIST_SIZE };
 }
 
 impl HeaderList {
@@ -42,7 +38,7 @@ impl HeaderList {
     {
         HeaderList {
             headers: List::new(alloc),
-            room: MAX_LIST_SIZE,
+            room: MAX_HEADER_LIST_SIZE,
         }
     }
 
@@ -53,28 +49,24 @@ impl HeaderList {
         self.headers.is_empty()
     }
 
-    /// Adds a header at the end.
+    /// Adds a header at the end, where the size of the list stays small enough.
     pub(crate) fn push(&mut self, header: Header) -> Result<(), HpackStop>
-        ensures gives { Gives (λ _. self.new) result (listed self.old header) }
-        ensures small { OnOk result (size_of header ≤ 16384) }
+        ensures answer { AnswersAs (λ _. self.new) (list_with self.old header) result }
+        ensures small { OnOk result (size_of header ≤ MAX_HEADER_LIST_SIZE) }
     {
         if !header.fits(self.room) {
-            return Err(HpackStop::Refused(LIST_TOO_LARGE));
+            return Err(Stop::Refused(BlockRule::ListTooLarge));
         }
         let size = header.size();
-        match self.headers.push(header) {
-            Ok(()) => {
-                self.room -= size;
-                Ok(())
-            }
-            Err(_header) => Err(HpackStop::NoMemory),
-        }
+        self.headers.add(header)?;
+        self.room -= size;
+        Ok(())
     }
 
     /// The headers, in order.
     pub(crate) fn into_headers(self) -> Headers
         ensures headers { result ≡ self }
-        ensures small { list_size result ≤ 16384 }
+        ensures small { list_size result ≤ MAX_HEADER_LIST_SIZE }
     {
         self.headers
     }

@@ -8,15 +8,15 @@ mod header;
 mod header_list;
 mod integer;
 mod laws;
+mod limits;
 mod representation;
 mod static_table;
 mod stop;
 mod string;
-#[cfg(test)]
-mod tests;
 
 pub use decoder::Decoder;
 pub use encoder::Encoder;
 pub use header::{Header, Headers};
 pub use laws::{eviction_law, one_answer_law};
-pub use stop::HpackStop;
+pub use limits::{MAX_HEADER_LIST_SIZE, MAX_TABLE_SIZE};
+pub use stop::{BlockRule, HpackStop};

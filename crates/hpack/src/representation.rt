@@ -1,25 +1,23 @@
 //! The five representations of a header block (RFC 7541, section 6).
 ghost use Rattle.std.specs.Prelude.{◌≡◌, ◌<◌, length, if◌then◌else◌, Err};
-ghost use Rattle.hpack.specs.Reading.{Gives};
+ghost use Rattle.esi_base.specs.Answers.{AnswersAs, Reads};
 ghost use Rattle.hpack.specs.Representations.{representation_of};
-ghost use Rattle.hpack.specs.Tables.{inserted};
-ghost use Rattle.hpack.specs.RepresentationReading.{entry_at, indexed_at, entry_name_at, name_at, value_at, literal_at, joined, update_at, read_as, representation_at, is_empty};
+ghost use Rattle.hpack.specs.Tables.{table_with};
+ghost use Rattle.hpack.specs.RepresentationReading.{entry_at, indexed_at, entry_name_at, name_at, value_at, literal_at, listing_with, update_at, read_as, representation_at, is_empty};
 
-use crate::dynamic_table::{DynamicTable, MAX_LIMIT};
+use crate::dynamic_table::DynamicTable;
 use crate::header::Header;
 use crate::header_list::HeaderList;
 use crate::integer::integer_at;
-use crate::static_table::{STATIC_ENTRIES, static_entry};
-use crate::stop::HpackStop;
+use crate::limits::{
+    INDEXED_BITS, MAX_TABLE_SIZE, SIZE_UPDATE_BITS, STATIC_ENTRIES, WITH_INDEXING_BITS,
+    WITHOUT_INDEXING_BITS,
+};
+use crate::static_table::static_entry;
+use crate::stop::{BlockRule, HpackStop};
 use crate::string::string_at;
-use esi_base::Octets;
+use esi_base::{Octets, Stop};
 use std::alloc::Global;
-
-/// No entry has the index.
-const NO_ENTRY: u16 = 713;
-
-/// A size update is above 4,096, or stands behind a field.
-const WRONG_UPDATE: u16 = 715;
 
 /// The kinds of representations, by the bits with which they begin.
 #[derive(Clone, Copy, Debug, PartialEq, Eq)]
@@ -51,7 +49,7 @@ impl Representation {
     }
 }
 
-/// Reads the representation at the front of octets, and gives the octets behind it.
+/// Reads the representation at the front of octets, and gives the octets after it.
 #[tactic(auto, unfolding(crate::specs::RepresentationReading::representation_at, crate::specs::RepresentationReading::read_as))]
 pub(crate) fn representation_at<'a>(
     alloc: Global,
@@ -60,8 +58,8 @@ pub(crate) fn representation_at<'a>(
     octets: &'a [u8],
 ) -> Result<&'a [u8], HpackStop>
     requires { 0 < length octets.now }
-    ensures { Gives (λ rest. (record { headers = list.new; table = table.new }, rest.now))
-        result (representation_at (record { headers = list.old; table = table.old }) octets.now) }
+    ensures { AnswersAs (λ rest. (record { headers = list.new; table = table.new }, rest.now))
+        (representation_at (record { headers = list.old; table = table.old }) octets.now) result }
 {
     match Representation::of(octets[0]) {
         Representation::Indexed => field_at(alloc, list, table, octets),
@@ -79,8 +77,8 @@ fn field_at<'a>(
     table: &DynamicTable,
     octets: &'a [u8],
 ) -> Result<&'a [u8], HpackStop>
-    ensures { Gives (λ rest. (record { headers = list.new; table = table.now }, rest.now))
-        result (joined (λ header. table.now) list.old (indexed_at table.now octets.now)) }
+    ensures { AnswersAs (λ rest. (record { headers = list.new; table = table.now }, rest.now))
+        (listing_with (λ header. table.now) list.old (indexed_at table.now octets.now)) result }
 {
     let (header, rest) = indexed_at(alloc, table, octets)?;
     list.push(header)?;
@@ -94,11 +92,11 @@ fn joining_field_at<'a>(
     table: &mut DynamicTable,
     octets: &'a [u8],
 ) -> Result<&'a [u8], HpackStop>
-    ensures { Gives (λ rest. (record { headers = list.new; table = table.new }, rest.now))
-        result (joined (λ header. inserted header table.old) list.old
-        (literal_at 63 table.old octets.now)) }
+    ensures { AnswersAs (λ rest. (record { headers = list.new; table = table.new }, rest.now))
+        (listing_with (λ header. table_with header table.old) list.old
+        (literal_at WITH_INDEXING_BITS table.old octets.now)) result }
 {
-    let (header, rest) = literal_at(alloc, 63, table, octets)?;
+    let (header, rest) = literal_at(alloc, WITH_INDEXING_BITS, table, octets)?;
     let entry = header.copied(alloc)?;
     list.push(header)?;
     table.insert(entry)?;
@@ -112,10 +110,10 @@ fn plain_field_at<'a>(
     table: &DynamicTable,
     octets: &'a [u8],
 ) -> Result<&'a [u8], HpackStop>
-    ensures { Gives (λ rest. (record { headers = list.new; table = table.now }, rest.now))
-        result (joined (λ header. table.now) list.old (literal_at 15 table.now octets.now)) }
+    ensures { AnswersAs (λ rest. (record { headers = list.new; table = table.now }, rest.now))
+        (listing_with (λ header. table.now) list.old (literal_at WITHOUT_INDEXING_BITS table.now octets.now)) result }
 {
-    let (header, rest) = literal_at(alloc, 15, table, octets)?;
+    let (header, rest) = literal_at(alloc, WITHOUT_INDEXING_BITS, table, octets)?;
     list.push(header)?;
     Ok(rest)
 }
@@ -127,15 +125,15 @@ fn update_at<'a>(
     table: &mut DynamicTable,
     octets: &'a [u8],
 ) -> Result<&'a [u8], HpackStop>
-    ensures { Gives (λ rest. (record { headers = list.now; table = table.new }, rest.now))
-        result (if is_empty list.now then update_at table.old octets.now else Err 715) }
+    ensures { AnswersAs (λ rest. (record { headers = list.now; table = table.new }, rest.now))
+        (if is_empty list.now then update_at table.old octets.now else Err BlockRule.WrongSizeUpdate) result }
 {
     if !list.is_empty() {
-        return Err(HpackStop::Refused(WRONG_UPDATE));
+        return Err(Stop::Refused(BlockRule::WrongSizeUpdate));
     }
-    let (limit, rest) = integer_at(31, octets)?;
-    if limit as usize > MAX_LIMIT {
-        return Err(HpackStop::Refused(WRONG_UPDATE));
+    let (limit, rest) = integer_at(SIZE_UPDATE_BITS, octets)?;
+    if limit as usize > MAX_TABLE_SIZE {
+        return Err(Stop::Refused(BlockRule::WrongSizeUpdate));
     }
     table.resize(limit as usize);
     Ok(rest)
@@ -147,25 +145,25 @@ fn indexed_at<'a>(
     table: &DynamicTable,
     octets: &'a [u8],
 ) -> Result<(Header, &'a [u8]), HpackStop>
-    ensures { Gives (λ x. (x.0, x.1.now)) result (indexed_at table.now octets.now) }
+    ensures { AnswersAs (λ x. (x.0, x.1.now)) (indexed_at table.now octets.now) result }
 {
-    let (index, rest) = integer_at(127, octets)?;
+    let (index, rest) = integer_at(INDEXED_BITS, octets)?;
     let header = entry_at(alloc, table, index)?;
     Ok((header, rest))
 }
 
-/// A literal, whose index has a prefix that is full at `full`.
+/// A literal, whose index has a prefix of so many bits.
 #[tactic(auto, unfolding(crate::specs::RepresentationReading::literal_at))]
 fn literal_at<'a>(
     alloc: Global,
-    full: u8,
+    bits: u32,
     table: &DynamicTable,
     octets: &'a [u8],
 ) -> Result<(Header, &'a [u8]), HpackStop>
-    requires { full < 128 }
-    ensures { Gives (λ x. (x.0, x.1.now)) result (literal_at full table.now octets.now) }
+    requires { bits < 8 }
+    ensures { AnswersAs (λ x. (x.0, x.1.now)) (literal_at bits table.now octets.now) result }
 {
-    let (index, rest) = integer_at(full, octets)?;
+    let (index, rest) = integer_at(bits, octets)?;
     let (name, rest) = name_at(alloc, table, index, rest)?;
     value_at(alloc, name, rest)
 }
@@ -177,7 +175,7 @@ fn name_at<'a>(
     index: u32,
     octets: &'a [u8],
 ) -> Result<(Octets, &'a [u8]), HpackStop>
-    ensures { Gives (λ x. (x.0, x.1.now)) result (name_at table.now index octets.now) }
+    ensures { AnswersAs (λ x. (x.0, x.1.now)) (name_at table.now index octets.now) result }
 {
     if index == 0 {
         return string_at(alloc, octets);
@@ -188,19 +186,19 @@ fn name_at<'a>(
 
 #[tactic(auto, unfolding(crate::specs::RepresentationReading::value_at))]
 fn value_at(alloc: Global, name: Octets, octets: &[u8]) -> Result<(Header, &[u8]), HpackStop>
-    ensures { Gives (λ x. (x.0, x.1.now)) result (value_at name octets.now) }
+    ensures { AnswersAs (λ x. (x.0, x.1.now)) (value_at name octets.now) result }
 {
     let (value, rest) = string_at(alloc, octets)?;
     Ok((Header { name, value }, rest))
 }
 
-/// A copy of the entry at an index: of the static table from 1 on, of the dynamic one behind it.
+/// A copy of the entry at an index: of the static table from 1 on, of the dynamic one after it.
 #[tactic(auto, unfolding(crate::specs::RepresentationReading::entry_at))]
 fn entry_at(alloc: Global, table: &DynamicTable, index: u32) -> Result<Header, HpackStop>
-    ensures { Gives (λ header. header) result (entry_at table.now index) }
+    ensures { Reads (entry_at table.now index) result }
 {
     if index == 0 {
-        return Err(HpackStop::Refused(NO_ENTRY));
+        return Err(Stop::Refused(BlockRule::NoSuchEntry));
     }
     let at = index as usize - 1;
     if at < STATIC_ENTRIES {
@@ -208,6 +206,6 @@ fn entry_at(alloc: Global, table: &DynamicTable, index: u32) -> Result<Header, H
     }
     match table.get(at - STATIC_ENTRIES) {
         Some(header) => Ok(header.copied(alloc)?),
-        None => Err(HpackStop::Refused(NO_ENTRY)),
+        None => Err(Stop::Refused(BlockRule::NoSuchEntry)),
     }
 }

@@ -4,13 +4,11 @@ ghost use Rattle.hpack.specs.StaticTable.{static_table};
 ghost use Rattle.hpack.specs.StaticPieces.{piece};
 
 use crate::header::Header;
+use crate::limits::STATIC_ENTRIES;
 use esi_base::{List, NoMemory};
 use std::alloc::Global;
 
-/// How many entries the static table has.
-pub(crate) const STATIC_ENTRIES: usize = 61;
-
-/// The names and values of the entries, one behind the other.
+/// The names and values of the entries, one after the other.
 const TEXT: [u8; 684] = *b"\
     :authority:methodGET:methodPOST:path/:path/index.html:schemehttp:schemehttps:status200\
     :status204:status206:status304:status400:status404:status500accept-charset\
@@ -33,7 +31,7 @@ const ENDS: [u16; 123] = [
     665, 668, 668, 684, 684,
 ];
 
-/// The entry at a place, which counts from 0.
+/// The entry at an index, which counts from 0.
 pub(crate) fn static_entry(alloc: Global, at: usize) -> Result<Header, NoMemory>
     requires { at < STATIC_ENTRIES }
     ensures { IfOk result (λ header. slice_get static_table at ≡ Some header) }
@@ -44,7 +42,7 @@ pub(crate) fn static_entry(alloc: Global, at: usize) -> Result<Header, NoMemory>
     })
 }
 
-/// A piece of the text: the name of an entry at twice its place, and behind it its value.
+/// A piece of the text: the name of an entry at twice its index, and after it its value.
 fn piece(at: usize) -> &'static [u8]
     requires { at < 122 }
     ensures { result.now ≡ piece at }

@@ -1,43 +1,45 @@
-//! Why a header block is not read.
+//! The rules of header blocks, and why a block is not read.
 ghost use Rattle.std.specs.Prelude.{◌≡◌};
-ghost use Rattle.hpack.specs.declared.stop.HpackStop.TheVariants.{NoMemory as stop_no_memory};
+ghost use Rattle.hpack.specs.Rules.{rule_number};
 
-use esi_base::NoMemory;
-use std::alloc::{AllocError, AllocFailed};
+use esi_base::Stop;
 
-/// Why a header block is not read.
+/// A rule of header blocks (sections of RFC 7541, where no other document is named).
 #[derive(Clone, Copy, Debug, PartialEq, Eq)]
-pub enum HpackStop {
-    /// The block is malformed, by the number of the first rule in octet order that it breaks: 711
-    /// padding of a Huffman code that is not of ones or has 8 bits or more, 712 the end of string in
-    /// a Huffman code, 713 an index of no entry, 714 an integer or a string that is cut, or an integer
-    /// above 2^32 - 1 or of more than 6 octets, 715 a size update above 4,096 or behind a field, 716 a
-    /// header list of a size above 16,384.
-    Refused(u16),
-    /// Memory could not be had.
-    NoMemory,
+pub enum BlockRule {
+    /// After the last word of a Huffman code stand fewer than 8 bits, and each of them is 1 (section
+    /// 5.2).
+    Padding,
+    /// The end of string does not stand in a Huffman code (section 5.2).
+    EndOfString,
+    /// An index is that of an entry of the two tables (sections 2.3.3 and 6.1).
+    NoSuchEntry,
+    /// An integer or a string stands whole; an integer is below 2^32 and has at most 6 octets
+    /// (sections 5.1 and 5.2).
+    CutOrTooLarge,
+    /// A size update sets at most 4,096, and stands before each field of the block (sections 4.2 and
+    /// 6.3).
+    WrongSizeUpdate,
+    /// The size of the header list is at most 16,384 (RFC 9113, section 10.5.1).
+    ListTooLarge,
 }
 
-impl From<AllocError> for HpackStop {
-    ghost from_gives = { λ _ e. e ≡ stop_no_memory };
-
-    fn from(_error: AllocError) -> HpackStop {
-        HpackStop::NoMemory
+impl BlockRule {
+    /// The number of the rule: 711 to 716.
+    pub fn number(self) -> u16
+        ensures { result ≡ rule_number self }
+    {
+        match self {
+            BlockRule::Padding => 711,
+            BlockRule::EndOfString => 712,
+            BlockRule::NoSuchEntry => 713,
+            BlockRule::CutOrTooLarge => 714,
+            BlockRule::WrongSizeUpdate => 715,
+            BlockRule::ListTooLarge => 716,
+        }
     }
 }
 
-impl From<NoMemory> for HpackStop {
-    ghost from_gives = { λ _ e. e ≡ stop_no_memory };
-
-    fn from(_error: NoMemory) -> HpackStop {
-        HpackStop::NoMemory
-    }
-}
-
-impl<T: Drop> From<AllocFailed<T>> for HpackStop {
-    ghost from_gives = { λ _ e. e ≡ stop_no_memory };
-
-    fn from(_failed: AllocFailed<T>) -> HpackStop {
-        HpackStop::NoMemory
-    }
-}
+/// Why a header block is not read: it is malformed, by the first rule in octet order that it breaks,
+/// or memory ran out.
+pub type HpackStop = Stop<BlockRule>;

@@ -1,5 +1,6 @@
 -- The laws of the code.
 use Rattle.std.specs.Prelude.{ℕ, ◌≡◌, List, Result, Ok}
+use Rattle.hpack_huffman.specs.declared.stop.HuffmanRule.{HuffmanRule}
 use Rattle.hpack_huffman.specs.Decoding.{decoded}
 use Rattle.hpack_huffman.specs.DecodingLaws.{decoded_from}
 use Rattle.hpack_huffman.specs.EncodingLaws.{decoded-encoded, encoded_alone}
@@ -8,7 +9,7 @@ use Rattle.hpack_huffman.specs.Laws.{ReadAgain, OneText, OneCode}
 pub read_again : ReadAgain
 read_again = decoded-encoded
 
-text_of : (one other : List ℕ) (r : Result (List ℕ) ℕ) → r ≡ Ok one → r ≡ Ok other → one ≡ other
+text_of : (one other : List ℕ) (r : Result (List ℕ) HuffmanRule) → r ≡ Ok one → r ≡ Ok other → one ≡ other
 text_of one other r e f = cc
 
 pub one_text : OneText

@@ -1,5 +1,5 @@
+pub mod AnswerFacts
 pub mod CodeFacts
 pub mod PutsLemmas
 pub mod Rows
-pub mod Told
 pub mod WordTables

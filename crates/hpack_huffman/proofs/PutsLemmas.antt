@@ -16,7 +16,7 @@ use Rattle.hpack_huffman.specs.Tree.{all_below}
 use Rattle.hpack_huffman.specs.DecodingLaws.{below_all}
 use Rattle.hpack_huffman.specs.Encoding.{encoded}
 use Rattle.hpack_huffman.specs.EncodingLaws.{encoded_alone, encoded_words, encoded_octets, length-encoded}
-use Rattle.hpack_huffman.specs.Answers.{AddsCode}
+use Rattle.hpack_huffman.specs.Additions.{AddsCode}
 use Rattle.hpack_huffman.specs.Puts.{Puts, Fills}
 use Rattle.hpack_huffman.proofs.WordTables.{length-word}
 
@@ -24,7 +24,7 @@ use Rattle.hpack_huffman.proofs.WordTables.{length-word}
 pub puts_none : (old : List ℕ) (bits : List Bool) → Puts old old bits bits
 puts_none old bits = record { code = []; octets = tt; added = sym (append-nil old); whole = refl }
 
--- One step behind another.
+-- One step after another.
 pub puts_then : (old middle new : List ℕ) (bits between more left : List Bool) → Puts old middle bits between → Puts middle new (between ++ more) left → Puts old new (bits ++ more) left
 puts_then old middle new bits between more left h g = record {
   code = h.code ++ g.code;
@@ -71,9 +71,9 @@ one_shifted count short =
     ap (λ n. n % 2 ^ 64) (let e : 1 * 2 ^ count ≡ 2 ^ count = omega arith in e)
     ∙ mod-eq_of_lt (lt_of_lt_of_le (pow-lt short) (lit≤ tt))
 
--- A word behind bits that wait.
-pub word_behind : (number count word many : ℕ) → number < 2 ^ count → count < 8 → word < 2 ^ many → many ≤ 30 → high_bits (count + many) (number * 2 ^ many % 2 ^ 64 + word) ≡ high_bits count number ++ high_bits many word
-word_behind number count word many low short fits few = ap (λ n. high_bits (count + many) (n + word)) (shifted number count many low short few) ∙ high_join count many number word fits
+-- A word after bits that wait.
+pub word_after : (number count word many : ℕ) → number < 2 ^ count → count < 8 → word < 2 ^ many → many ≤ 30 → high_bits (count + many) (number * 2 ^ many % 2 ^ 64 + word) ≡ high_bits count number ++ high_bits many word
+word_after number count word many low short fits few = ap (λ n. high_bits (count + many) (n + word)) (shifted number count many low short few) ∙ high_join count many number word fits
 
 pub sum_low : (number count word many : ℕ) → number < 2 ^ count → count < 8 → word < 2 ^ many → many ≤ 30 → number * 2 ^ many % 2 ^ 64 + word < 2 ^ 64
 sum_low number count word many low short fits few =

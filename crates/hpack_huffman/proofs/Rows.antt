@@ -1,4 +1,4 @@
--- The tables say what the tree does in four bits.
+-- The tables have what the tree does in four bits.
 use Rattle.std.specs.Prelude.{ℕ, ◌≡◌, ◌+◌, ◌*◌, ◌/◌, ◌%◌, ◌<◌, ◌≤◌, ◌==◌, ◌&&◌, Bool, true, false, if◌then◌else◌, nat_lt, List, [], ◌∷◌, ◌++◌, length, take, drop, get_or, Option, Some, None, Result, Ok, Err, slice_index, refl}
 use Rattle.std.proofs.Common.{sym, ◌∙◌, ap, append-nil, arith}
 use Rattle.std.proofs.lemmas.Bool.{false≢true, eqb-true, le-ltb, lt-ltb, ltb-true, and_parts}
@@ -6,61 +6,63 @@ use Rattle.std.proofs.lemmas.Bool.Decides.{nat_tests}
 use Rattle.std.proofs.lemmas.List.{get_or-drop, drop_more, drop_all, length-take}
 use Rattle.std.proofs.Math.Seq.{take-append_seam, drop-append_seam}
 use Rattle.hpack_huffman.specs.declared.steps.TheConstants.{NEXT_NODES, SYMBOLS}
+use Rattle.hpack_huffman.specs.declared.stop.HuffmanRule.{HuffmanRule}
+use Rattle.hpack_huffman.specs.declared.stop.HuffmanRule.TheVariants.{Padding, EndOfString}
 use Rattle.hpack_huffman.specs.Code.{groups, words, high_bits, bits_of, AreOctets}
 use Rattle.hpack_huffman.specs.HighBits.{octet_halves}
 use Rattle.hpack_huffman.specs.Decoding.{onto, walk, decoded}
 use Rattle.hpack_huffman.specs.Machines.{joined, joined-onto, onto-onto, walk-append, walk_keeps, EndsWith, TurnKeeps}
 use Rattle.hpack_huffman.specs.Tree.{Tree, leaf, fork, number, tree_turn, tree_step, code_tree, all_below}
-use Rattle.hpack_huffman.specs.Halves.{told, half_turn, octet_turn, read_from}
+use Rattle.hpack_huffman.specs.Halves.{entry_reading, half_turn, octet_turn, read_from}
 use Rattle.hpack_huffman.specs.DecodingLaws.{numbered, closed_number, decoded_by_tree, below_all, is_fork, code_tree_is_fork}
 
--- Entries that say the same as what was read down the tree.
-abbrev said : ℕ → ℕ → List ℕ → ℕ → Bool
-said s next [] node = nat_lt 256 s && (next == node)
-said s next (t ∷ []) node = (s == t) && (nat_lt s 256 && (next == node))
-said s next (t ∷ (u ∷ more)) node = false
+-- Entries that stand for what was read down the tree.
+abbrev matches_at : ℕ → ℕ → List ℕ → ℕ → Bool
+matches_at s next [] node = nat_lt 256 s && (next == node)
+matches_at s next (t ∷ []) node = (s == t) && (nat_lt s 256 && (next == node))
+matches_at s next (t ∷ (u ∷ more)) node = false
 
-abbrev says : ℕ → ℕ → Option (List ℕ × Tree) → Bool
-says s next None = s == 256
-says s next (Some read) = said s next read.0 (number read.1)
+abbrev matches : ℕ → ℕ → Option (List ℕ × Tree) → Bool
+matches s next None = s == 256
+matches s next (Some read) = matches_at s next read.0 (number read.1)
 
-told_end : (s next : ℕ) → s ≡ 256 → told s next ≡ None
-told_end s next e = rw e refl
+entry_of_end : (s next : ℕ) → s ≡ 256 → entry_reading s next ≡ None
+entry_of_end s next e = rw e refl
 
 eqb-false-of : (s : ℕ) → 256 < s → (s == 256) ≡ false
 eqb-false-of s h = grind (arith, nat_tests)
 
-told_inner : (s next node : ℕ) → 256 < s → next ≡ node → told s next ≡ Some ([], node)
-told_inner s next node h e = rw (le-ltb s 256 (omega arith), eqb-false-of s h, e) refl
+entry_inside : (s next node : ℕ) → 256 < s → next ≡ node → entry_reading s next ≡ Some ([], node)
+entry_inside s next node h e = rw (le-ltb s 256 (omega arith), eqb-false-of s h, e) refl
 
-told_symbol : (s next t node : ℕ) → s ≡ t → s < 256 → next ≡ node → told s next ≡ Some (t ∷ [], node)
-told_symbol s next t node e h f = rw (lt-ltb s 256 h, e, f) refl
+entry_of_symbol : (s next t node : ℕ) → s ≡ t → s < 256 → next ≡ node → entry_reading s next ≡ Some (t ∷ [], node)
+entry_of_symbol s next t node e h f = rw (lt-ltb s 256 h, e, f) refl
 
-told_said : (s next : ℕ) (symbols : List ℕ) (node : ℕ) → said s next symbols node ≡ true → told s next ≡ Some (symbols, node)
-told_said s next [] node h =
+entry_at_node : (s next : ℕ) (symbols : List ℕ) (node : ℕ) → matches_at s next symbols node ≡ true → entry_reading s next ≡ Some (symbols, node)
+entry_at_node s next [] node h =
     let both = and_parts (nat_lt 256 s) (next == node) h in
-    told_inner s next node (ltb-true 256 s both.0) (eqb-true next node both.1)
-told_said s next (t ∷ []) node h =
+    entry_inside s next node (ltb-true 256 s both.0) (eqb-true next node both.1)
+entry_at_node s next (t ∷ []) node h =
     let both = and_parts (s == t) (nat_lt s 256 && (next == node)) h in
     let more = and_parts (nat_lt s 256) (next == node) both.1 in
-    told_symbol s next t node (eqb-true s t both.0) (ltb-true s 256 more.0) (eqb-true next node more.1)
-told_said s next (t ∷ (u ∷ more)) node h = absurd (false≢true h)
+    entry_of_symbol s next t node (eqb-true s t both.0) (ltb-true s 256 more.0) (eqb-true next node more.1)
+entry_at_node s next (t ∷ (u ∷ more)) node h = absurd (false≢true h)
 
-told_says : (s next : ℕ) (read : Option (List ℕ × Tree)) → says s next read ≡ true → told s next ≡ numbered read
-told_says s next None h = told_end s next (eqb-true s 256 h)
-told_says s next (Some read) h = told_said s next read.0 (number read.1) h
+entry_is : (s next : ℕ) (read : Option (List ℕ × Tree)) → matches s next read ≡ true → entry_reading s next ≡ numbered read
+entry_is s next None h = entry_of_end s next (eqb-true s 256 h)
+entry_is s next (Some read) h = entry_at_node s next read.0 (number read.1) h
 
 -- The entries of a node, from its own on.
 abbrev row : Tree → List ℕ → List ℕ → Tree → Bool
-row root symbols nodes tree = all_below (λ half. says (slice_index symbols half) (slice_index nodes half) (walk root tree_step tree (high_bits 4 half))) 16
+row root symbols nodes tree = all_below (λ half. matches (slice_index symbols half) (slice_index nodes half) (walk root tree_step tree (high_bits 4 half))) 16
 
 abbrev rows : Tree → Tree → Bool
 rows root (leaf s) = true
 rows root (fork n low high) = row root (drop (16 * n) SYMBOLS) (drop (16 * n) NEXT_NODES) (fork n low high) && (rows root low && rows root high)
 
-rows_say : rows code_tree code_tree ≡ true
+rows_match : rows code_tree code_tree ≡ true
 unfolding code_tree words groups
-rows_say = refl
+rows_match = refl
 
 -- A node whose own rows, and those below it, say what the tree does.
 abbrev HasRows : Tree → Type 0
@@ -72,7 +74,7 @@ has_rows (leaf s) h e = absurd (false≢true h)
 has_rows (fork n low high) h e = e
 
 root_has_rows : HasRows code_tree
-root_has_rows = has_rows code_tree code_tree_is_fork rows_say
+root_has_rows = has_rows code_tree code_tree_is_fork rows_match
 
 turn_keeps : (tree : Tree) → rows code_tree tree ≡ true → TurnKeeps code_tree tree_step HasRows (tree_turn tree)
 turn_keeps (leaf s) h = tt
@@ -95,10 +97,10 @@ half_agrees (leaf s) half h low = absurd h
 half_agrees (fork n below above) half h low =
     let own = row code_tree (drop (16 * n) SYMBOLS) (drop (16 * n) NEXT_NODES) (fork n below above) in
     let here = (and_parts own (rows code_tree below && rows code_tree above) h).0 in
-    ap (λ s. told s (slice_index NEXT_NODES (16 * n + half))) (sym (get_or-drop (16 * n) SYMBOLS half 0))
-    ∙ ap (λ next. told (slice_index (drop (16 * n) SYMBOLS) half) next) (sym (get_or-drop (16 * n) NEXT_NODES half 0))
-    ∙ told_says (slice_index (drop (16 * n) SYMBOLS) half) (slice_index (drop (16 * n) NEXT_NODES) half) (walk code_tree tree_step (fork n below above) (high_bits 4 half))
-    (below_all (λ k. says (slice_index (drop (16 * n) SYMBOLS) k) (slice_index (drop (16 * n) NEXT_NODES) k) (walk code_tree tree_step (fork n below above) (high_bits 4 k))) 16 half here low)
+    ap (λ s. entry_reading s (slice_index NEXT_NODES (16 * n + half))) (sym (get_or-drop (16 * n) SYMBOLS half 0))
+    ∙ ap (λ next. entry_reading (slice_index (drop (16 * n) SYMBOLS) half) next) (sym (get_or-drop (16 * n) NEXT_NODES half 0))
+    ∙ entry_is (slice_index (drop (16 * n) SYMBOLS) half) (slice_index (drop (16 * n) NEXT_NODES) half) (walk code_tree tree_step (fork n below above) (high_bits 4 half))
+    (below_all (λ k. matches (slice_index (drop (16 * n) SYMBOLS) k) (slice_index (drop (16 * n) NEXT_NODES) k) (walk code_tree tree_step (fork n below above) (high_bits 4 k))) 16 half here low)
 
 numbered-onto : (front : List ℕ) (read : Option (List ℕ × Tree)) → numbered (onto front read) ≡ onto front (numbered read)
 numbered-onto front None = refl
@@ -165,8 +167,8 @@ take_of_take (x ∷ a) [] c h = absurd (omega arith)
 take_of_take (x ∷ a) (y ∷ b) [] h = refl
 take_of_take (x ∷ a) (y ∷ b) (z ∷ c) h = ap (λ rest. z ∷ rest) (take_of_take a b c (omega arith))
 
-pub kept_further : (a b c : List ℕ) → take (length a) b ≡ a → take (length b) c ≡ b → take (length a) c ≡ a
-kept_further a b c h g =
+pub prefix_further : (a b c : List ℕ) → take (length a) b ≡ a → take (length b) c ≡ b → take (length a) c ≡ a
+prefix_further a b c h g =
     let below : length a ≤ length b = omega (arith, ap length h, length-take (length a) b) in
     sym (take_of_take a b c below) ∙ ap (take (length a)) g ∙ h
 
@@ -210,21 +212,21 @@ closed_low old new node (Some read) e low =
     let both = pair_of (old ++ read.0, read.1) (new, node) e in
     let symbols : old ++ read.0 ≡ new = ap (λ p. p.0) both in
     let last : read.1 ≡ node = ap (λ p. p.1) both in
-    ap (λ b. let r : Result (List ℕ) ℕ = if b then Ok read.0 else Err 711 in r) (lt-ltb read.1 8 (omega arith))
-    ∙ ap (λ text. let r : Result (List ℕ) ℕ = Ok text in r) (sym (drop-append_seam old read.0) ∙ ap (drop (length old)) symbols)
+    ap (λ b. let r : Result (List ℕ) HuffmanRule = if b then Ok read.0 else Err Padding in r) (lt-ltb read.1 8 (omega arith))
+    ∙ ap (λ text. let r : Result (List ℕ) HuffmanRule = Ok text in r) (sym (drop-append_seam old read.0) ∙ ap (drop (length old)) symbols)
 
-closed_high : (old new : List ℕ) (node : ℕ) (read : Option (List ℕ × ℕ)) → onto old read ≡ Some (new, node) → 8 ≤ node → closed_number read ≡ Err 711
+closed_high : (old new : List ℕ) (node : ℕ) (read : Option (List ℕ × ℕ)) → onto old read ≡ Some (new, node) → 8 ≤ node → closed_number read ≡ Err Padding
 closed_high old new node None e high = absurd (cc)
 closed_high old new node (Some read) e high =
     let last : read.1 ≡ node = ap (λ p. p.1) (pair_of (old ++ read.0, read.1) (new, node) e) in
-    ap (λ b. let r : Result (List ℕ) ℕ = if b then Ok read.0 else Err 711 in r) (le-ltb read.1 8 (omega arith))
+    ap (λ b. let r : Result (List ℕ) HuffmanRule = if b then Ok read.0 else Err Padding in r) (le-ltb read.1 8 (omega arith))
 
 -- What the tables' answer is worth.
 pub text_read : (octets old new : List ℕ) (node : ℕ) → AreOctets octets → onto old (read_from 0 octets) ≡ Some (new, node) → node < 8 → decoded octets ≡ Ok (drop (length old) new)
 text_read octets old new node small e low = decoded_by_tables octets small ∙ closed_low old new node (read_from 0 octets) e low
 
-pub text_unpadded : (octets old new : List ℕ) (node : ℕ) → AreOctets octets → onto old (read_from 0 octets) ≡ Some (new, node) → 8 ≤ node → decoded octets ≡ Err 711
+pub text_unpadded : (octets old new : List ℕ) (node : ℕ) → AreOctets octets → onto old (read_from 0 octets) ≡ Some (new, node) → 8 ≤ node → decoded octets ≡ Err Padding
 text_unpadded octets old new node small e high = decoded_by_tables octets small ∙ closed_high old new node (read_from 0 octets) e high
 
-pub text_ended : (octets : List ℕ) → AreOctets octets → read_from 0 octets ≡ None → decoded octets ≡ Err 712
+pub text_ended : (octets : List ℕ) → AreOctets octets → read_from 0 octets ≡ None → decoded octets ≡ Err EndOfString
 text_ended octets small e = decoded_by_tables octets small ∙ ap closed_number e

@@ -58,7 +58,7 @@ word_in (word ∷ words) symbol = if symbol == word.0 then word.1 else word_in w
 unfoldable pub word_of : ℕ → List Bool
 word_of symbol = word_in words symbol
 
--- The bits of a row of symbols, one word behind the other.
+-- The bits of a row of symbols, one word after the other.
 abbrev pub spelled : List ℕ → List Bool
 spelled [] = []
 spelled (symbol ∷ symbols) = word_of symbol ++ spelled symbols
@@ -76,7 +76,7 @@ ones (suc count) = true ∷ ones count
 abbrev pub AreOctets : List ℕ → Type 0
 AreOctets octets = AreSmall 8 octets
 
--- The end of string is the symbol behind the octets.
+-- The end of string is the symbol after the octets.
 abbrev pub end_of_string : ℕ
 end_of_string = 256
 
@@ -94,7 +94,7 @@ pub record HoldsEnd (bits : List Bool) : Type 0 where
   pub more : List Bool
   pub whole : bits ≡ spelled before ++ (word_of end_of_string ++ more)
 
--- The bits are those of no text, and no end of string stands among them: what is left behind their words is no padding.
+-- The bits are those of no text, and no end of string stands among them: what is left after their words is no padding.
 pub record IsUnpadded (bits : List Bool) : Type 0 where
   pub no_text : (text : List ℕ) → AreWordsOf bits text → ⊥
   pub no_end : HoldsEnd bits → ⊥

@@ -41,7 +41,7 @@ known words (word ∷ others) bits s h e =
     let both = and_parts (same_bits (word_in words word.0) word.1 && nat_le word.0 256) (are_known words others) h in
     known_step words word others bits s both.0 (known words others bits s both.1) (same_bits word.1 bits) refl e
 
--- The bits at which a symbol is told are its word.
+-- The bits at which a symbol is found are its word.
 pub symbol_is : (bits : List Bool) (s : ℕ) → symbol_in words bits ≡ Some s → word_of s ≡ bits
 unfolding word_of IsSymbolOf
 symbol_is bits s e = (known words words bits s all_known e).0
@@ -66,8 +66,8 @@ spells_symbol s bits more read low e h false is =
     let last : s ≡ 256 = omega arith in
     ([], more, tt, e ∙ ap (λ t. word_of t ++ more) last)
 
-spells_turn : (path bits : List Bool) (bit : Bool) → ((next : List Bool) → Spells (next ++ bits) (walk [] collected next bits)) → (told : Option ℕ) → symbol_in words (path ++ bit ∷ []) ≡ told
-    → Spells (path ++ bit ∷ bits) (on_turn (λ next. walk [] collected next bits) (λ s. if nat_lt s 256 then onto (s ∷ []) (walk [] collected [] bits) else None) (turn_of (path ++ bit ∷ []) told))
+spells_turn : (path bits : List Bool) (bit : Bool) → ((next : List Bool) → Spells (next ++ bits) (walk [] collected next bits)) → (found : Option ℕ) → symbol_in words (path ++ bit ∷ []) ≡ found
+    → Spells (path ++ bit ∷ bits) (on_turn (λ next. walk [] collected next bits) (λ s. if nat_lt s 256 then onto (s ∷ []) (walk [] collected [] bits) else None) (turn_of (path ++ bit ∷ []) found))
 spells_turn path bits bit each None is = subst (λ all. Spells all (walk [] collected (path ++ bit ∷ []) bits)) (append_assoc path (bit ∷ []) bits) (each (path ++ bit ∷ []))
 spells_turn path bits bit each (Some s) is =
     spells_symbol s (path ++ bit ∷ bits) bits (walk [] collected [] bits) (symbol_low (path ++ bit ∷ []) s is) (sym (append_assoc path (bit ∷ []) bits) ∙ ap (λ word. word ++ bits) (sym (symbol_is (path ++ bit ∷ []) s is))) (each []) (nat_lt s 256) refl

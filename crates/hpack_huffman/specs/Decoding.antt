@@ -1,6 +1,8 @@
 -- Reading the code bit by bit: bits are collected until they are a word.
 use Rattle.std.specs.Prelude.{ℕ, Bool, true, ◌&&◌, if◌then◌else◌, nat_lt, List, [], ◌∷◌, ◌++◌, length, Option, Some, None, Result, Ok, Err}
 use Rattle.esi_base.specs.Bits.{same_bits}
+use Rattle.hpack_huffman.specs.declared.stop.HuffmanRule.{HuffmanRule}
+use Rattle.hpack_huffman.specs.declared.stop.HuffmanRule.TheVariants.{Padding, EndOfString}
 use Rattle.hpack_huffman.specs.Code.{words, bits_of}
 
 -- After one bit more: in the midst of a word, or at a symbol's last bit.
@@ -12,12 +14,12 @@ abbrev pub on_turn : {N A : Type 0} → (N → A) → (ℕ → A) → Turn N →
 on_turn at_inner at_symbol (inner node) = at_inner node
 on_turn at_inner at_symbol (symbol s) = at_symbol s
 
--- Symbols in front of those that are read behind them, which are told with what is read of a word at the end.
+-- Symbols in front of those that are read after them, which come with what is read of a word at the end.
 abbrev pub onto : {N : Type 0} → List ℕ → Option (List ℕ × N) → Option (List ℕ × N)
 onto front None = None
 onto front (Some read) = Some (front ++ read.0, read.1)
 
--- A machine that reads bits one by one, and begins anew behind each symbol. None where it comes to the end of string.
+-- A machine that reads bits one by one, and begins anew after each symbol. None where it comes to the end of string.
 abbrev pub walk : {N : Type 0} → N → (N → Bool → Turn N) → N → List Bool → Option (List ℕ × N)
 walk root step node [] = Some ([], node)
 walk root step node (bit ∷ bits) =
@@ -40,12 +42,12 @@ abbrev pub all_ones : List Bool → Bool
 all_ones [] = true
 all_ones (bit ∷ bits) = bit && all_ones bits
 
--- What is left behind the words is padding where it is fewer than 8 ones.
-abbrev pub closed : Option (List ℕ × List Bool) → Result (List ℕ) ℕ
-closed None = Err 712
-closed (Some read) = if nat_lt (length read.1) 8 && all_ones read.1 then Ok read.0 else Err 711
+-- What is left after the words is padding where it is fewer than 8 ones.
+abbrev pub closed : Option (List ℕ × List Bool) → Result (List ℕ) HuffmanRule
+closed None = Err EndOfString
+closed (Some read) = if nat_lt (length read.1) 8 && all_ones read.1 then Ok read.0 else Err Padding
 
--- The text that octets stand for, or the number of the rule that they break: 712 for an end of string, 711 for bits
--- behind the last word that are no padding.
-unfoldable pub decoded : List ℕ → Result (List ℕ) ℕ
+-- The text that octets stand for, or the rule that they break: an end of string stands there, or bits after the last
+-- word that are no padding.
+unfoldable pub decoded : List ℕ → Result (List ℕ) HuffmanRule
 decoded octets = closed (walk [] collected [] (bits_of octets))

@@ -4,6 +4,8 @@ use Rattle.std.specs.Bool.{beq}
 use Rattle.std.specs.Cmp.{booleans_Decides}
 use Rattle.std.proofs.Common.{sym, ◌∙◌, ap, subst, append_assoc, append-nil, inl, inr, arith}
 use Rattle.std.proofs.lemmas.Bool.{false≢true, eqb-true, lt-ltb, ltb-true, and_parts}
+use Rattle.hpack_huffman.specs.declared.stop.HuffmanRule.{HuffmanRule}
+use Rattle.hpack_huffman.specs.declared.stop.HuffmanRule.TheVariants.{Padding, EndOfString}
 use Rattle.hpack_huffman.specs.Code.{groups, words, word_of, word_in, spelled, ones, bits_of, AreOctets, AreWordsOf, HoldsEnd, IsUnpadded, end_of_string}
 use Rattle.hpack_huffman.specs.Decoding.{inner, symbol, onto, walk, collected, symbol_in, turn_of, all_ones, closed, decoded}
 use Rattle.hpack_huffman.specs.Machines.{onto-none, onto-onto, lands, walk_word, TurnsAgree, ReadsAgree, walks_agree}
@@ -30,11 +32,11 @@ stands path (fork n low high) h e = e
 root_stands : StandsFor [] code_tree
 root_stands = stands [] code_tree code_tree_is_fork code_tree_agrees
 
-named_turn : (path : List Bool) (s : ℕ) (told : Option ℕ) → names s told ≡ true → TurnsAgree StandsFor (turn_of path told) (symbol s)
+named_turn : (path : List Bool) (s : ℕ) (found : Option ℕ) → names s found ≡ true → TurnsAgree StandsFor (turn_of path found) (symbol s)
 named_turn path s None h = absurd (false≢true h)
 named_turn path s (Some t) h = sym (eqb-true s t h)
 
-inner_turn : (path : List Bool) (n : ℕ) (low high : Tree) (told : Option ℕ) → is_none told ≡ true → agrees words path (fork n low high) ≡ true → TurnsAgree StandsFor (turn_of path told) (inner (fork n low high))
+inner_turn : (path : List Bool) (n : ℕ) (low high : Tree) (found : Option ℕ) → is_none found ≡ true → agrees words path (fork n low high) ≡ true → TurnsAgree StandsFor (turn_of path found) (inner (fork n low high))
 inner_turn path n low high None h e = e
 inner_turn path n low high (Some t) h e = absurd (false≢true h)
 
@@ -44,13 +46,13 @@ child_turn path (fork n low high) h =
     inner_turn path n low high (symbol_in words path)
     (and_parts (is_none (symbol_in words path)) (beq (nat_lt n 8) (is_padding path) && (agrees words (path ++ false ∷ []) low && agrees words (path ++ true ∷ []) high)) h).0 h
 
-record Parts (path : List Bool) (n : ℕ) (low high : Tree) : Type 0 where
+record Agreement (path : List Bool) (n : ℕ) (low high : Tree) : Type 0 where
   padding : nat_lt n 8 ≡ is_padding path
   below : agrees words (path ++ false ∷ []) low ≡ true
   above : agrees words (path ++ true ∷ []) high ≡ true
 
-parts : (path : List Bool) (n : ℕ) (low high : Tree) → agrees words path (fork n low high) ≡ true → Parts path n low high
-parts path n low high h =
+agreement : (path : List Bool) (n : ℕ) (low high : Tree) → agrees words path (fork n low high) ≡ true → Agreement path n low high
+agreement path n low high h =
     let children = agrees words (path ++ false ∷ []) low && agrees words (path ++ true ∷ []) high in
     let test = beq (nat_lt n 8) (is_padding path) in
     let rest = (and_parts (is_none (symbol_in words path)) (test && children) h).1 in
@@ -61,23 +63,23 @@ parts path n low high h =
 each_turn : (path : List Bool) (tree : Tree) (bit : Bool) → StandsFor path tree → TurnsAgree StandsFor (collected path bit) (tree_step tree bit)
 unfolding collected
 each_turn path (leaf s) bit h = absurd h
-each_turn path (fork n low high) true h = child_turn (path ++ true ∷ []) high (parts path n low high h).above
-each_turn path (fork n low high) false h = child_turn (path ++ false ∷ []) low (parts path n low high h).below
+each_turn path (fork n low high) true h = child_turn (path ++ true ∷ []) high (agreement path n low high h).above
+each_turn path (fork n low high) false h = child_turn (path ++ false ∷ []) low (agreement path n low high h).below
 
 -- What was read, by the number of the node at its end.
 abbrev pub numbered : Option (List ℕ × Tree) → Option (List ℕ × ℕ)
 numbered None = None
 numbered (Some read) = Some (read.0, number read.1)
 
-abbrev pub closed_number : Option (List ℕ × ℕ) → Result (List ℕ) ℕ
-closed_number None = Err 712
-closed_number (Some read) = if nat_lt read.1 8 then Ok read.0 else Err 711
+abbrev pub closed_number : Option (List ℕ × ℕ) → Result (List ℕ) HuffmanRule
+closed_number None = Err EndOfString
+closed_number (Some read) = if nat_lt read.1 8 then Ok read.0 else Err Padding
 
-closed_pair : (symbols others : List ℕ) (path : List Bool) (tree : Tree) → symbols ≡ others → StandsFor path tree → (if is_padding path then Ok symbols else Err 711) ≡ closed_number (numbered (Some (others, tree)))
+closed_pair : (symbols others : List ℕ) (path : List Bool) (tree : Tree) → symbols ≡ others → StandsFor path tree → (if is_padding path then Ok symbols else Err Padding) ≡ closed_number (numbered (Some (others, tree)))
 closed_pair symbols others path (leaf s) e h = absurd h
 closed_pair symbols others path (fork n low high) e h =
-    ap (λ b. let r : Result (List ℕ) ℕ = if b then Ok symbols else Err 711 in r) (sym (parts path n low high h).padding)
-    ∙ ap (λ text. let r : Result (List ℕ) ℕ = if nat_lt n 8 then Ok text else Err 711 in r) e
+    ap (λ b. let r : Result (List ℕ) HuffmanRule = if b then Ok symbols else Err Padding in r) (sym (agreement path n low high h).padding)
+    ∙ ap (λ text. let r : Result (List ℕ) HuffmanRule = if nat_lt n 8 then Ok text else Err Padding in r) e
 
 closed_alike : (read : Option (List ℕ × List Bool)) (other : Option (List ℕ × Tree)) → ReadsAgree StandsFor read other → closed read ≡ closed_number (numbered other)
 closed_alike None None h = refl
@@ -140,9 +142,9 @@ closed_text : (text : List ℕ) (read : Option (List ℕ × Tree)) → is_closed
 closed_text text None h = absurd (false≢true h)
 closed_text text (Some read) h =
     let both = and_parts (nat_lt (number read.1) 8) (nat_lt (length read.0) 1) h in
-    ap (λ b. let r : Result (List ℕ) ℕ = if b then Ok (text ++ read.0) else Err 711 in r) both.0
-    ∙ ap (λ more. let r : Result (List ℕ) ℕ = Ok (text ++ more) in r) (none_below_one read.0 (ltb-true (length read.0) 1 both.1))
-    ∙ ap (λ all. let r : Result (List ℕ) ℕ = Ok all in r) (append-nil text)
+    ap (λ b. let r : Result (List ℕ) HuffmanRule = if b then Ok (text ++ read.0) else Err Padding in r) both.0
+    ∙ ap (λ more. let r : Result (List ℕ) HuffmanRule = Ok (text ++ more) in r) (none_below_one read.0 (ltb-true (length read.0) 1 both.1))
+    ∙ ap (λ all. let r : Result (List ℕ) HuffmanRule = Ok all in r) (append-nil text)
 
 -- The text of octets is read from them.
 pub decoded_from : (octets text : List ℕ) → AreWordsOf (bits_of octets) text → decoded octets ≡ Ok text
@@ -153,62 +155,58 @@ decoded_from octets text h =
     ∙ closed_text text (walk_tree (ones h.padding)) (below_all (λ k. is_closed (walk_tree (ones k))) 8 h.padding ones_close h.short)
 
 -- An end of string is found.
-pub decoded_to_end : (octets : List ℕ) → HoldsEnd (bits_of octets) → decoded octets ≡ Err 712
+pub decoded_to_end : (octets : List ℕ) → HoldsEnd (bits_of octets) → decoded octets ≡ Err EndOfString
 decoded_to_end octets h =
     decoded_by_tree octets
     ∙ ap (λ bits. closed_number (numbered (walk_tree bits))) h.whole
     ∙ ap (λ read. closed_number (numbered read)) (text_leads h.before (word_of end_of_string ++ h.more) h.octets ∙ ap (onto h.before) (end_leads h.more))
 
--- What was read, told by its answer.
-abbrev Reads : List Bool → Result (List ℕ) ℕ → Type 0
-Reads bits (Ok text) = AreWordsOf bits text
-Reads bits (Err n) = ((n ≡ 711) × Unit {0}) ⊎ ((n ≡ 712) × HoldsEnd bits)
+-- What an answer says of the bits.
+abbrev Means : List Bool → Result (List ℕ) HuffmanRule → Type 0
+Means bits (Ok text) = AreWordsOf bits text
+Means bits (Err Padding) = Unit {0}
+Means bits (Err EndOfString) = HoldsEnd bits
 
-reads_pair : (bits : List Bool) (text : List ℕ) (left : List Bool) → AreOctets text → bits ≡ spelled text ++ left → (b : Bool) → is_padding left ≡ b → Reads bits (if b then Ok text else Err 711)
-reads_pair bits text left octets e true is =
+means_pair : (bits : List Bool) (text : List ℕ) (left : List Bool) → AreOctets text → bits ≡ spelled text ++ left → (b : Bool) → is_padding left ≡ b → Means bits (if b then Ok text else Err Padding)
+means_pair bits text left octets e true is =
     let both = and_parts (nat_lt (length left) 8) (all_ones left) is in
     record { octets = octets; padding = length left; short = ltb-true (length left) 8 both.0; whole = e ∙ ap (λ more. spelled text ++ more) (ones_from left both.1) }
-reads_pair bits text left octets e false is = inl (refl, tt)
+means_pair bits text left octets e false is = tt
 
-reads : (bits : List Bool) (read : Option (List ℕ × List Bool)) → Spells bits read → Reads bits (closed read)
-reads bits None h = inr (refl, record { before = h.0; octets = h.2; more = h.1; whole = h.3 })
-reads bits (Some read) h = reads_pair bits read.0 read.1 h.0 h.1 (is_padding read.1) refl
+means : (bits : List Bool) (read : Option (List ℕ × List Bool)) → Spells bits read → Means bits (closed read)
+means bits None h = record { before = h.0; octets = h.2; more = h.1; whole = h.3 }
+means bits (Some read) h = means_pair bits read.0 read.1 h.0 h.1 (is_padding read.1) refl
 
-decoded_reads : (octets : List ℕ) → Reads (bits_of octets) (decoded octets)
+decoded_means : (octets : List ℕ) → Means (bits_of octets) (decoded octets)
 unfolding decoded
-decoded_reads octets = reads (bits_of octets) (walk [] collected [] (bits_of octets)) (walk_spells (bits_of octets) [])
+decoded_means octets = means (bits_of octets) (walk [] collected [] (bits_of octets)) (walk_spells (bits_of octets) [])
 
 -- What is read is the text of the octets.
 pub decoded_text : (octets text : List ℕ) → decoded octets ≡ Ok text → AreWordsOf (bits_of octets) text
-decoded_text octets text e = subst (λ r. Reads (bits_of octets) r) e (decoded_reads octets)
+decoded_text octets text e = subst (λ r. Means (bits_of octets) r) e (decoded_means octets)
 
--- An end of string that is told stands there.
-pub decoded_end : (octets : List ℕ) → decoded octets ≡ Err 712 → HoldsEnd (bits_of octets)
-decoded_end octets e = elim (subst (λ r. Reads (bits_of octets) r) e (decoded_reads octets)) [ inl other ↦ absurd (let h : 712 ≡ 711 = other.0 in omega arith) | inr same ↦ same.1 ]
+-- An end of string that is reported stands there.
+pub decoded_end : (octets : List ℕ) → decoded octets ≡ Err EndOfString → HoldsEnd (bits_of octets)
+decoded_end octets e = subst (λ r. Means (bits_of octets) r) e (decoded_means octets)
 
-pub text_or_refused : (r : Result (List ℕ) ℕ) (text : List ℕ) (n : ℕ) → r ≡ Ok text → r ≡ Err n → ⊥
-text_or_refused r text n e f = cc
+pub text_or_refused : (r : Result (List ℕ) HuffmanRule) (text : List ℕ) (rule : HuffmanRule) → r ≡ Ok text → r ≡ Err rule → ⊥
+text_or_refused r text rule e f = cc
 
-one_number : (r : Result (List ℕ) ℕ) (n m : ℕ) → r ≡ Err n → r ≡ Err m → n ≡ m
-one_number r n m e f = cc
+pub end_or_padding : (r : Result (List ℕ) HuffmanRule) → r ≡ Err EndOfString → r ≡ Err Padding → ⊥
+end_or_padding r e f = cc
 
-apart : (n m : ℕ) → n ≡ m → n ≡ 712 → m ≡ 711 → ⊥
-apart n m e f g = omega arith
-
-pub end_or_padding : (r : Result (List ℕ) ℕ) → r ≡ Err 712 → r ≡ Err 711 → ⊥
-end_or_padding r e f = apart 712 711 (one_number r 712 711 e f) refl refl
-
--- Where padding is told neither stands there,
-pub decoded_unpadded : (octets : List ℕ) → decoded octets ≡ Err 711 → IsUnpadded (bits_of octets)
+-- Where padding is reported neither stands there,
+pub decoded_unpadded : (octets : List ℕ) → decoded octets ≡ Err Padding → IsUnpadded (bits_of octets)
 decoded_unpadded octets e = record {
-  no_text = λ text h. text_or_refused (decoded octets) text 711 (decoded_from octets text h) e;
+  no_text = λ text h. text_or_refused (decoded octets) text Padding (decoded_from octets text h) e;
   no_end = λ h. end_or_padding (decoded octets) (decoded_to_end octets h) e;
 }
 
-unpadded_read : (bits : List Bool) (r : Result (List ℕ) ℕ) → Reads bits r → IsUnpadded bits → r ≡ Err 711
+unpadded_read : (bits : List Bool) (r : Result (List ℕ) HuffmanRule) → Means bits r → IsUnpadded bits → r ≡ Err Padding
 unpadded_read bits (Ok text) h none = absurd (none.no_text text h)
-unpadded_read bits (Err n) h none = elim h [ inl padding ↦ ap (λ m. let r : Result (List ℕ) ℕ = Err m in r) padding.0 | inr ends ↦ absurd (none.no_end ends.1) ]
+unpadded_read bits (Err Padding) h none = refl
+unpadded_read bits (Err EndOfString) h none = absurd (none.no_end h)
 
--- and it is told wherever neither does.
-pub decoded_to_padding : (octets : List ℕ) → IsUnpadded (bits_of octets) → decoded octets ≡ Err 711
-decoded_to_padding octets none = unpadded_read (bits_of octets) (decoded octets) (decoded_reads octets) none
+-- and it is reported wherever neither does.
+pub decoded_to_padding : (octets : List ℕ) → IsUnpadded (bits_of octets) → decoded octets ≡ Err Padding
+decoded_to_padding octets none = unpadded_read (bits_of octets) (decoded octets) (decoded_means octets) none

@@ -42,7 +42,7 @@ number_from-high_bits (suc width) s n =
 alone : (b : Bool) → 2 * 0 + bit_value b ≡ bit_value b
 alone b = omega arith
 
--- Bits that are read behind others are below them.
+-- Bits that are read after others are below them.
 pub number_from-split : (bits : List Bool) (s : ℕ) → number_from s bits ≡ s * 2 ^ length bits + number_from 0 bits
 number_from-split [] s = omega arith
 number_from-split (b ∷ bits) s =

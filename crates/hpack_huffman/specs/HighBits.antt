@@ -34,7 +34,7 @@ high_above (suc width) x y =
     ∙ ap (λ m. (m == 1) ∷ high_bits width (2 * x * 2 ^ width + y)) (ap (λ m. m % 2) (mul-add-div_right (pow_pos width) (2 * x) y) ∙ parity x (y / 2 ^ width))
     ∙ ap (λ bits. (y / 2 ^ width % 2 == 1) ∷ bits) (high_above width (2 * x) y)
 
--- A number that is put behind another has its bits behind the other's.
+-- A number that is put after another has its bits after the other's.
 pub high_join : (a b x y : ℕ) → y < 2 ^ b → high_bits (a + b) (x * 2 ^ b + y) ≡ high_bits a x ++ high_bits b y
 high_join a b x y h =
     high_split a b (x * 2 ^ b + y)

@@ -1,4 +1,4 @@
-pub mod Answers
+pub mod Additions
 pub mod Code
 pub mod CodeLaws
 pub mod Decoding
@@ -10,4 +10,5 @@ pub mod HighBits
 pub mod Laws
 pub mod Machines
 pub mod Puts
+pub mod Rules
 pub mod Tree

@@ -4,7 +4,7 @@ use Rattle.std.proofs.Common.{sym, ◌∙◌, ap, subst, append_assoc}
 use Rattle.std.proofs.lemmas.Bool.{false≢true, eqb-true}
 use Rattle.hpack_huffman.specs.Decoding.{Turn, inner, symbol, on_turn, onto, walk}
 
--- What is read from a node on, behind what was read up to it.
+-- What is read from a node on, after what was read up to it.
 abbrev pub joined : {N M : Type 0} → Option (List ℕ × N) → (N → Option (List ℕ × M)) → Option (List ℕ × M)
 joined None more = None
 joined (Some read) more = onto read.0 (more read.1)
@@ -34,7 +34,7 @@ module _ {N : Type 0} (root : N) (step : N → Bool → Turn N) where
       ap (λ read. if nat_lt s 256 then onto (s ∷ []) read else None) (each root)
       ∙ symbol_joined (walk root step root bits) (λ node. walk root step node more) s (nat_lt s 256)
 
-  -- Bits are read one part behind the other.
+  -- Bits are read one part after the other.
   pub walk-append : (bits more : List Bool) (node : N) → walk root step node (bits ++ more) ≡ joined (walk root step node bits) (λ next. walk root step next more)
   walk-append [] more node = sym (onto-none (walk root step node more))
   walk-append (bit ∷ bits) more node = turned bits more (λ next. walk-append bits more next) (step node bit)
@@ -48,21 +48,21 @@ module _ {N : Type 0} (root : N) (step : N → Bool → Turn N) where
   TurnKeeps P (inner next) = P next
   TurnKeeps P (symbol s) = Unit {0}
 
-  kept_onto : (P : N → Type 0) (s : ℕ) (read : Option (List ℕ × N)) (b : Bool) → EndsWith P read → EndsWith P (if b then onto (s ∷ []) read else None)
-  kept_onto P s None true h = tt
-  kept_onto P s None false h = tt
-  kept_onto P s (Some read) true h = h
-  kept_onto P s (Some read) false h = tt
+  onto_keeps : (P : N → Type 0) (s : ℕ) (read : Option (List ℕ × N)) (b : Bool) → EndsWith P read → EndsWith P (if b then onto (s ∷ []) read else None)
+  onto_keeps P s None true h = tt
+  onto_keeps P s None false h = tt
+  onto_keeps P s (Some read) true h = h
+  onto_keeps P s (Some read) false h = tt
 
-  kept_turn : (P : N → Type 0) (bits : List Bool) → ((next : N) → P next → EndsWith P (walk root step next bits)) → P root → (turn : Turn N) → TurnKeeps P turn
+  turn_keeps_end : (P : N → Type 0) (bits : List Bool) → ((next : N) → P next → EndsWith P (walk root step next bits)) → P root → (turn : Turn N) → TurnKeeps P turn
       → EndsWith P (on_turn (λ next. walk root step next bits) (λ s. if nat_lt s 256 then onto (s ∷ []) (walk root step root bits) else None) turn)
-  kept_turn P bits each start (inner next) h = each next h
-  kept_turn P bits each start (symbol s) h = kept_onto P s (walk root step root bits) (nat_lt s 256) (each root start)
+  turn_keeps_end P bits each start (inner next) h = each next h
+  turn_keeps_end P bits each start (symbol s) h = onto_keeps P s (walk root step root bits) (nat_lt s 256) (each root start)
 
   -- What each step keeps holds at the end.
   pub walk_keeps : (P : N → Type 0) → P root → ((node : N) (bit : Bool) → P node → TurnKeeps P (step node bit)) → (bits : List Bool) (node : N) → P node → EndsWith P (walk root step node bits)
   walk_keeps P start each [] node h = h
-  walk_keeps P start each (bit ∷ bits) node h = kept_turn P bits (λ next. walk_keeps P start each bits next) start (step node bit) (each node bit h)
+  walk_keeps P start each (bit ∷ bits) node h = turn_keeps_end P bits (λ next. walk_keeps P start each bits next) start (step node bit) (each node bit h)
 
   -- Reading a word leads to its symbol, at its last bit.
   abbrev pub lands : ℕ → N → List Bool → Bool

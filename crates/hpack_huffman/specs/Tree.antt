@@ -22,7 +22,7 @@ abbrev pub tree_step : Tree → Bool → Turn Tree
 tree_step (leaf s) bit = symbol s
 tree_step (fork n low high) bit = tree_turn (if bit then high else low)
 
--- A tree, the number of the node behind its own, and the words that are left.
+-- A tree, the number of the node after its own, and the words that are left.
 pub record Grown : Type 0 where
   pub tree : Tree
   pub next : ℕ

@@ -2,7 +2,7 @@
 ghost use Rattle.std.specs.Prelude.{◌≡◌, ◌<◌, ◌≤◌, ◌^◌, ◌+◌, ◌-◌, ◌++◌, [], OnOk, OnErr, IfOk, length, take, slice_index};
 ghost use Rattle.hpack_huffman.specs.Code.{high_bits, ones, spelled, word_of};
 ghost use Rattle.hpack_huffman.specs.Encoding.{encoded};
-ghost use Rattle.hpack_huffman.specs.Answers.{AddsCode};
+ghost use Rattle.hpack_huffman.specs.Additions.{AddsCode};
 ghost use Rattle.hpack_huffman.specs.Puts.{Fills, Puts};
 
 use crate::words::{LENGTHS, NUMBERS};
@@ -43,8 +43,8 @@ pub fn huff_len(text: &[u8]) -> usize
 }
 
 /// Adds at the end of `out` the octets that stand for a text: the words of its octets, and fewer than
-/// 8 ones behind them (RFC 7541, section 5.2). For want of memory, and for no other cause, it fails
-/// and leaves `out` as it was.
+/// 8 ones after them (RFC 7541, section 5.2). It fails only when it runs out of memory, and then
+/// leaves `out` as it was.
 pub fn huff_encode(text: &[u8], out: &mut Octets) -> Result<(), NoMemory>
     // What it adds is the code of the text, and of no other.
     ensures code { OnOk result (AddsCode text.now out.old out.new) }
@@ -62,10 +62,10 @@ pub fn huff_encode(text: &[u8], out: &mut Octets) -> Result<(), NoMemory>
     }
 }
 
-/// The same, but that octets may be left behind what was there where it fails.
+/// The same, but that octets may be left after what was there where it fails.
 fn write_code(text: &[u8], out: &mut Octets) -> Result<(), NoMemory>
     ensures ok { OnOk result (Fills out.old out.new (spelled text.now)) }
-    ensures kept { take (length out.old) out.new ≡ out.old }
+    ensures prefix { take (length out.old) out.new ≡ out.old }
 {
     match write_words(text, out) {
         Ok(pending) => fill_octet(pending, out),
@@ -76,7 +76,7 @@ fn write_code(text: &[u8], out: &mut Octets) -> Result<(), NoMemory>
 /// Writes the words of a text, and gives the bits that fill no octet.
 fn write_words(text: &[u8], out: &mut Octets) -> Result<Pending, NoMemory>
     ensures ok { IfOk result (λ left. Puts out.old out.new (spelled text.now) (high_bits left.count left.number)) }
-    ensures kept { take (length out.old) out.new ≡ out.old }
+    ensures prefix { take (length out.old) out.new ≡ out.old }
 {
     let mut pending = no_bits();
     for octet in text {
@@ -98,10 +98,10 @@ fn no_bits() -> Pending
     }
 }
 
-/// Writes a word behind bits that wait, and gives those that fill no octet.
+/// Writes a word after bits that wait, and gives those that fill no octet.
 fn write_word(pending: Pending, word: CodeWord, out: &mut Octets) -> Result<Pending, NoMemory>
     ensures ok { IfOk result (λ left. Puts out.old out.new (high_bits pending.count pending.number ++ high_bits word.length word.number) (high_bits left.count left.number)) }
-    ensures kept { take (length out.old) out.new ≡ out.old }
+    ensures prefix { take (length out.old) out.new ≡ out.old }
 {
     let number = (pending.number << word.length) + u64::from(word.number);
     write_octets(number, pending.count + word.length, out)
@@ -112,15 +112,12 @@ fn write_word(pending: Pending, word: CodeWord, out: &mut Octets) -> Result<Pend
 fn write_octets(number: u64, count: u32, out: &mut Octets) -> Result<Pending, NoMemory>
     requires { count < 64 }
     ensures ok { IfOk result (λ left. Puts out.old out.new (high_bits count number) (high_bits left.count left.number)) }
-    ensures kept { take (length out.old) out.new ≡ out.old }
+    ensures prefix { take (length out.old) out.new ≡ out.old }
 {
     let mut left = count;
     while left >= 8 {
         left -= 8;
-        match out.push(((number >> left) % 256) as u8) {
-            Ok(()) => {}
-            Err(_) => return Err(NoMemory),
-        }
+        out.add(((number >> left) % 256) as u8)?;
     }
     Ok(lowest(number, left))
 }
@@ -145,13 +142,10 @@ fn fill_octet(pending: Pending, out: &mut Octets) -> Result<(), NoMemory>
     if pending.count == 0 {
         return Ok(());
     }
-    match out.push(filled(pending)) {
-        Ok(()) => Ok(()),
-        Err(_) => Err(NoMemory),
-    }
+    out.add(filled(pending))
 }
 
-/// The octet that bits and ones behind them are.
+/// The octet that bits and ones after them are.
 fn filled(pending: Pending) -> u8
     ensures { high_bits 8 result ≡ high_bits pending.count pending.number ++ ones (8 - pending.count) }
 {

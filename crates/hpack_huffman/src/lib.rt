@@ -6,11 +6,9 @@ mod encoding;
 mod laws;
 mod steps;
 mod stop;
-#[cfg(test)]
-mod tests;
 mod words;
 
 pub use decoding::huff_decode;
 pub use encoding::{huff_encode, huff_len};
 pub use laws::{code_is_read_again_law, one_code_law, one_text_law};
-pub use stop::HuffStop;
+pub use stop::{HuffStop, HuffmanRule};

@@ -5,7 +5,7 @@
 //! ones. The others follow in the order in which a walk over the code's tree meets them that goes on
 //! with a one first.
 
-/// The node behind the four bits.
+/// The node after the four bits.
 pub(crate) const NEXT_NODES: [u8; 4096] = [
     255, 254, 252, 251, 248, 245, 241, 238, 232, 229, 225, 220, 211, 204, 196, 4, 234, 233, 231,
     230, 227, 226, 224, 221, 215, 212, 208, 205, 200, 197, 193, 5, 217, 216, 214, 213, 210, 209,
@@ -204,7 +204,7 @@ pub(crate) const NEXT_NODES: [u8; 4096] = [
     253, 250, 244, 237, 228, 219, 203, 3,
 ];
 
-/// The symbol whose word ends in the four bits: an octet, or 256 for the end of string, behind which
+/// The symbol whose word ends in the four bits: an octet, or 256 for the end of string, after which
 /// nothing is read; 257 where none ends there.
 pub(crate) const SYMBOLS: [u16; 4096] = [
     257, 257, 257, 257, 257, 257, 257, 257, 257, 257, 257, 257, 257, 257, 257, 257, 257, 257, 257,

@@ -1,7 +1,7 @@
 use Rattle.std.proofs.Common.{◌<◌, ◌∙◌, sym, length, arith}
 use Rattle.std.proofs.lemmas.Bool.{eqb-false, eqb-true}
 use Rattle.hpack.proofs.BlockLaw.{to_end_more, to_end_none, shorter}
-use Rattle.hpack.proofs.DecoderLaw.{fails_too}
+use Rattle.hpack.proofs.DecoderLaw.{stops_too}
 use Rattle.hpack.proofs.decoder.read_to_end.Goals as goal
 
 pub loop-rest-smaller : goal.loop-rest-smaller
@@ -13,7 +13,7 @@ loop-rest-preserved c = sym (to_end_more _ _ _ c.in-Ok.ensures) ∙ c.loop-rest.
 pub returns-in-Err : goal.returns-in-Err
 returns-in-Err c =
     let some : 0 < length c.loop-rest.rest.now = let apart = eqb-false (length c.loop-rest.rest.now) 0 (sym c.loop-rest-test.ensures) in omega arith in
-    fails_too c.in-Err.stop _ _ _ c.in-Err.ensures some c.loop-rest.invariant
+    stops_too c.in-Err.stop _ _ _ c.in-Err.ensures some c.loop-rest.invariant
 
 pub returns : goal.returns
 returns c =

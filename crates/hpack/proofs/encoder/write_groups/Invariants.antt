@@ -1,7 +1,7 @@
 use Rattle.hpack.proofs.EncodingLemmas.{AreWritten}
 use Rattle.hpack.proofs.encoder.write_groups.Given as goal
 
--- what was written, with the groups of the rest behind it, is all
+-- what was written, with the groups of the rest after it, is all
 abbrev pub invariant-loop-rest : goal.invariant-loop-rest
 invariant-loop-rest l = AreWritten l.fn.out l.out l.fn.n l.rest
 

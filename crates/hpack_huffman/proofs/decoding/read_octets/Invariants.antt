@@ -6,5 +6,5 @@ use Rattle.hpack_huffman.proofs.decoding.read_octets.Given as goal
 abbrev pub invariant-loop-octet : goal.invariant-loop-octet
 invariant-loop-octet l = record {
   rest : onto l.out (read_from l.node (drop l.octet-index l.octets)) ≡ onto l.fn.out (read_from 0 l.octets);
-  kept : take (length l.fn.out) l.out ≡ l.fn.out;
+  prefix : take (length l.fn.out) l.out ≡ l.fn.out;
 }
