@@ -94,7 +94,7 @@ impl Call {
                 opened(alloc, ledger, stream)
             }
             Call::IsOpen(stream) => opened(alloc, ledger, stream),
-            Call::Received(stream, octets) => judged(alloc, ledger.received(stream, octets)),
+            Call::Received(stream, octets) => outcome(alloc, ledger.received(stream, octets)),
             Call::ReceiveWindow(stream) => {
                 let window = ledger.receive_window(stream);
                 format!(in alloc; "{window}")
@@ -118,12 +118,12 @@ impl Call {
                 ledger.sent(stream, octets);
                 String::from_str(alloc, "ok")
             }
-            Call::Update(stream, increment) => judged(alloc, ledger.update(stream, increment)),
+            Call::Update(stream, increment) => outcome(alloc, ledger.update(stream, increment)),
             Call::HasRoom(stream, increment) => {
                 let room = ledger.has_room_for(stream, increment);
                 format!(in alloc; "{room}")
             }
-            Call::Initial(value) => judged(alloc, ledger.initial(value)),
+            Call::Initial(value) => outcome(alloc, ledger.initial(value)),
             Call::Random(seed, calls) => random::compared(alloc, seed, calls),
         }
     }
@@ -140,7 +140,7 @@ fn opened(alloc: Global, ledger: &Ledger, stream: u32) -> Result<String, AllocEr
 }
 
 /// A fault, or that there is none, as text.
-fn judged(alloc: Global, answer: Result<(), FlowFault>) -> Result<String, AllocError> {
+fn outcome(alloc: Global, answer: Result<(), FlowFault>) -> Result<String, AllocError> {
     let text = match answer {
         Ok(()) => "ok",
         Err(FlowFault { whole: true }) => "fault of the connection",

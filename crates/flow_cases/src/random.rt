@@ -44,8 +44,8 @@ struct Tally {
     differing: u32,
 }
 
-/// Makes random calls of a new ledger, and tells how many told a fault, behind how many some window
-/// to send was negative, and behind how many something differed from the sums.
+/// Makes random calls of a new ledger, and reports how many brought a fault, after how many some window
+/// to send was negative, and after how many something differed from the sums.
 pub fn compared(alloc: Global, seed: u32, calls: u32) -> Result<String, AllocError> {
     let Ok(mut ledger) = Ledger::new(alloc) else {
         return Err(AllocError);
@@ -123,7 +123,7 @@ fn one_call(
 }
 
 impl Tally {
-    /// Counts the fault that the ledger told; whether it is the one that was due.
+    /// Counts the fault that the ledger reported; whether it is the one that was due.
     fn noted(&mut self, found: Fault, due: Fault) -> bool {
         if found != Fault::No {
             self.faults = self.faults.saturating_add(1);
@@ -156,7 +156,7 @@ fn fault_in(answer: Result<(), FlowFault>) -> Fault {
     }
 }
 
-/// Whether a ledger tells of all streams and of the connection what the sums say.
+/// Whether a ledger reports of all streams and of the connection what the sums say.
 fn are_same(ledger: &Ledger, history: &History) -> bool {
     let mut same = true;
     for stream in 0..STREAMS {

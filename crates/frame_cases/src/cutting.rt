@@ -6,14 +6,14 @@ use esi_base::Poll;
 use h2_frames::{FrameReader, FrameStop, Role};
 use std::alloc::{AllocError, Global};
 
-/// Octets that are no more than these are cut in two at each place.
+/// Octets that are no more than these are cut in two at each offset.
 const SHORT: usize = 150;
 
-/// At how many places longer ones are cut in two, so that they take no long time.
+/// At how many offsets longer ones are cut in two, so that they take no long time.
 const PLACES: usize = 12;
 
-/// Reads octets whole, cut in two at each place, or at some where they are many, octet by octet, and at
-/// some random cuttings; gives the frames and what comes behind them, and says so where another cutting
+/// Reads octets whole, cut in two at each offset, or at some where they are many, octet by octet, and at
+/// some random cuttings; gives the frames and what comes after them, and says so where another cutting
 /// gave another answer.
 pub fn answer(alloc: Global, role: Role, octets: &[u8]) -> Result<String, AllocError> {
     let mut whole = read_in_pieces(alloc, role, octets, Cuts::None)?;
@@ -82,15 +82,15 @@ pub fn at_random(
 enum Cuts<'a> {
     /// Not at all.
     None,
-    /// Before this place.
+    /// Before this offset.
     At(usize),
-    /// Behind each octet.
+    /// After each octet.
     Each,
     /// In random pieces.
     Random(&'a mut Numbers),
 }
 
-/// Reads octets in pieces, and is asked for frames behind each piece.
+/// Reads octets in pieces, and is asked for frames after each piece.
 fn read_in_pieces(
     alloc: Global,
     role: Role,
@@ -161,7 +161,7 @@ fn feed(
     Ok(())
 }
 
-/// What comes behind the frames; a fault is asked for three times.
+/// What comes after the frames; a fault is asked for three times.
 fn end_of(alloc: Global, reader: &mut FrameReader) -> Result<String, AllocError> {
     let first = once(reader);
     if once(reader) != first || once(reader) != first {

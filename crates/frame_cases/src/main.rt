@@ -1,8 +1,8 @@
-//! Cases of frames: each line of the input is a case, and is printed behind it with its answer. A line
+//! Cases of frames: each line of the input is a case, and is printed after it with its answer. A line
 //! that begins with `#` is a title, and is printed as it is.
 //!
 //! `server PARTS` and `client PARTS` read octets for that end of a connection, whole and at many
-//! cuttings, and print the frames, and how it goes on behind them. `write FRAME` prints the octets of a
+//! cuttings, and print the frames, and how it goes on after them. `write FRAME` prints the octets of a
 //! frame, and reads them at each cutting. `random SEED SEQUENCES` writes so many random sequences of
 //! frames, and reads each at a random cutting.
 #![tactic(auto)]
@@ -51,7 +51,7 @@ fn answer_of(alloc: Global, line: &str) -> Result<Option<String>, AllocError> {
     }
 }
 
-/// The frames of octets, and how it goes on behind them.
+/// The frames of octets, and how it goes on after them.
 fn read_case(alloc: Global, role: Role, text: &str) -> Result<Option<String>, AllocError> {
     match parts::octets_of(alloc, text)? {
         Some(octets) => Ok(Some(cutting::answer(alloc, role, octets.as_slice())?)),

@@ -8,7 +8,7 @@ use h2_frames::{Frame, Role, Setting};
 use std::alloc::{AllocError, Global};
 
 /// Writes so many random sequences of frames, for both ends, reads each at a random cutting, and
-/// tells how many had two frames or more, and how many did not come back; None where the text is no case.
+/// reports how many had two frames or more, and how many did not come back; None where the text is no case.
 pub fn answer(alloc: Global, text: &str) -> Result<Option<String>, AllocError> {
     let Some((seed, count)) = text.split_once(" ") else {
         return Ok(None);
@@ -30,7 +30,7 @@ pub fn answer(alloc: Global, text: &str) -> Result<Option<String>, AllocError> {
     Ok(Some(answer))
 }
 
-/// Frames that were written one behind another.
+/// Frames that were written one after another.
 #[derive(Drop)]
 struct Sequence {
     role: Role,
@@ -59,7 +59,7 @@ impl Sequence {
         Ok(sequence)
     }
 
-    /// Adds 1 to 12 random frames; behind HEADERS that is not whole comes its CONTINUATION.
+    /// Adds 1 to 12 random frames; after HEADERS that is not whole comes its CONTINUATION.
     fn add_frames(&mut self, alloc: Global, numbers: &mut Numbers) -> Result<(), AllocError> {
         for _ in 0..numbers.below(12) + 1 {
             let frame = random_frame(alloc, numbers)?;

@@ -65,7 +65,7 @@ fn flag(set: bool, name: &'static str) -> &'static str {
     if set { name } else { "" }
 }
 
-/// Settings, each behind a blank; of many only how many there are, and the last one.
+/// Settings, each after a blank; of many only how many there are, and the last one.
 fn of_settings(alloc: Global, pairs: &List<Setting>) -> Result<String, AllocError> {
     let mut text = String::new(alloc);
     let shown = pairs.len() <= SHOWN;
@@ -84,8 +84,8 @@ fn of_settings(alloc: Global, pairs: &List<Setting>) -> Result<String, AllocErro
     Ok(text)
 }
 
-/// Octets in hexadecimal digits, behind a blank where there are some; of many only how many there are,
-/// and the sum of each times its place, counted from 1.
+/// Octets in hexadecimal digits, after a blank where there are some; of many only how many there are,
+/// and the sum of each times its position, counted from 1.
 pub fn of_octets(alloc: Global, octets: &[u8]) -> Result<String, AllocError> {
     if octets.is_empty() {
         return String::from_str(alloc, " none");
@@ -103,7 +103,7 @@ pub fn of_octets(alloc: Global, octets: &[u8]) -> Result<String, AllocError> {
     Ok(text)
 }
 
-/// The sum of each octet times its place, counted from 1.
+/// The sum of each octet times its position, counted from 1.
 fn weighed(octets: &[u8]) -> u64 {
     let mut sum: u64 = 0;
     let mut place: u64 = 0;

@@ -30,8 +30,8 @@ pub fn add_frame(alloc: Global, frame: &Frame, octets: &mut Vec<u8>) -> Result<b
     Ok(true)
 }
 
-/// Reads the octets of a frame at each cutting, behind those with which a connection begins; CONTINUATION
-/// behind HEADERS of its stream. It tells whether the frame comes back, and nothing else.
+/// Reads the octets of a frame at each cutting, after those with which a connection begins; CONTINUATION
+/// after HEADERS of its stream. It reports whether the frame comes back, and nothing else.
 fn read_again(alloc: Global, frame: &Frame, octets: &[u8]) -> Result<String, AllocError> {
     let mut all = Vec::new(alloc);
     let mut due = String::new(alloc);

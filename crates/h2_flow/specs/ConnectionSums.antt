@@ -31,17 +31,17 @@ unfolding Receives
 received_on_adds None stream octets w within = record { send = refl; receive = omega arith; setting = refl }
 received_on_adds (Some row) stream octets w within = received_on_cases (ltb row.receive octets) row stream octets w within
 
-received_behind : (is_connection : Bool) (stream octets : ℕ) (w : Windows) → octets ≤ w.receive → let rest : Windows = record w { receive = w.receive - octets } in
+received_after : (is_connection : Bool) (stream octets : ℕ) (w : Windows) → octets ≤ w.receive → let rest : Windows = record w { receive = w.receive - octets } in
     Receives stream octets w (cond is_connection (no_fault rest) (receipt_on (windows_on stream w.streams) octets rest))
 unfolding Receives
-received_behind true stream octets w within = record { send = refl; receive = omega arith; setting = refl }
-received_behind false stream octets w within = received_on_adds (windows_on stream w.streams) stream octets w within
+received_after true stream octets w within = record { send = refl; receive = omega arith; setting = refl }
+received_after false stream octets w within = received_on_adds (windows_on stream w.streams) stream octets w within
 
 received_cases : (short : Bool) (stream octets : ℕ) (w : Windows) → ltb w.receive octets ≡ short → let rest : Windows = record w { receive = w.receive - octets } in
     Receives stream octets w (cond short (fault_of_connection w) (cond (eqb stream 0) (no_fault rest) (receipt_on (windows_on stream w.streams) octets rest)))
 unfolding Receives
 received_cases true stream octets w is = record { send = refl; receive = omega arith; setting = refl }
-received_cases false stream octets w is = received_behind (eqb stream 0) stream octets w (ltb-false w.receive octets is)
+received_cases false stream octets w is = received_after (eqb stream 0) stream octets w (ltb-false w.receive octets is)
 
 received_adds : (stream octets : ℕ) (w : Windows) → Receives stream octets w (answer_at_receipt stream octets w)
 received_adds stream octets w = received_cases (ltb w.receive octets) stream octets w refl

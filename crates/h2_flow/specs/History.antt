@@ -8,7 +8,7 @@ use Rattle.h2_flow.specs.Streams.{send_window_of, octets_of, windows_on}
 use Rattle.h2_flow.specs.Windows.{Windows, AreBounded, is_open, may_open, after_opening, after_closing, answer_at_receipt, increment_due, after_resolving, may_send, after_sending, answer_at_update, answer_at_setting}
 
 -- A call that changes the windows, with what it answered: whether it opened the stream, the fault that
--- it told, the increment that was due.
+-- it reported, the increment that was due.
 pub data Call : Type 0 where
   OpenStream : (stream : ℕ) → (opens : Bool) → Call
   CloseStream : (stream : ℕ) → Call
@@ -39,7 +39,7 @@ IsRun old (call ∷ calls) new = (between : Windows) × (Step old call between �
 abbrev pub only : ℕ → ℕ → ℕ → ℕ
 only asked stream octets = if stream == asked then octets else 0
 
--- an increment that the peer gave the stream, or the connection, which is 0; one that told a fault is none
+-- an increment that the peer gave the stream, or the connection, which is 0; one that reported a fault is none
 abbrev pub increment_for : ℕ → Call → ℕ
 increment_for asked (Update stream increment None) = only asked stream increment
 increment_for asked call = 0
@@ -53,7 +53,7 @@ abbrev pub octets_sent : Call → ℕ
 octets_sent (Sent stream octets) = octets
 octets_sent call = 0
 
--- octets of DATA that arrived on the stream; those that told a fault are not counted on it
+-- octets of DATA that arrived on the stream; those that reported a fault are not counted on it
 abbrev pub octets_arrived_on : ℕ → Call → ℕ
 octets_arrived_on asked (Received stream octets None) = only asked stream octets
 octets_arrived_on asked call = 0

@@ -1,11 +1,11 @@
--- The place of a stream among the open ones.
+-- The index of a stream among the open ones.
 use Rattle.std.proofs.Common.{◌≡◌, ℕ, zero, suc, ◌<◌, ◌≤◌, inl, inr, IfSome, IfNone, is_some, true, false, cond, ltb, Option, Some, None, List, [], ◌∷◌, length, get_or, refl, ap, sym, ◌∙◌, arith}
 use Rattle.std.specs.List.{position, position_or_len}
 use Rattle.std.proofs.lemmas.Bool.{eqb-true, cond-true, cond-false, cases_lt, lt-ltb}
 use Rattle.std.proofs.lemmas.List.Quantifiers.{position-Some}
 use Rattle.std.proofs.lemmas.List.Sums.{fails_before_first}
 use Rattle.h2_flow.specs.declared.stream_windows.StreamWindows.{StreamWindows}
-use Rattle.h2_flow.specs.Streams.{is_of, windows_on, with_windows, without_stream, IsClosed, IsPlaceOf, new_windows}
+use Rattle.h2_flow.specs.Streams.{is_of, windows_on, with_windows, without_stream, IsClosed, IsIndexOf, new_windows}
 
 -- where no windows are the stream's, it is closed
 closed_by : (stream : ℕ) (rows : List StreamWindows) → ((k : ℕ) (d : StreamWindows) → k < length rows → is_of stream (get_or rows k d) ≡ false) → IsClosed stream rows
@@ -26,27 +26,27 @@ no_first stream rows e =
       | inr le ↦ le
     ]
 
-pub no_place : (stream : ℕ) (rows : List StreamWindows) → position (is_of stream) rows ≡ None → IsClosed stream rows
-no_place stream rows e =
+pub no_index : (stream : ℕ) (rows : List StreamWindows) → position (is_of stream) rows ≡ None → IsClosed stream rows
+no_index stream rows e =
     let n = position_or_len (is_of stream) rows in
     let past : length rows ≤ n = no_first stream rows e in
     closed_by stream rows (λ k d lt. fails_before_first (is_of stream) rows k d (omega arith))
 
--- the first windows that are the stream's stand at its place
-place_by : (stream : ℕ) (rows : List StreamWindows) (at : ℕ) → at < length rows
+-- the first windows that are the stream's stand at its index
+index_by : (stream : ℕ) (rows : List StreamWindows) (at : ℕ) → at < length rows
     → ((d : StreamWindows) → is_of stream (get_or rows at d) ≡ true)
-    → ((k : ℕ) (d : StreamWindows) → k < at → is_of stream (get_or rows k d) ≡ false) → IsPlaceOf stream rows at
-place_by stream [] at lt passes before = absurd (omega arith)
-place_by stream (row ∷ rows) zero lt passes before = record {
+    → ((k : ℕ) (d : StreamWindows) → k < at → is_of stream (get_or rows k d) ≡ false) → IsIndexOf stream rows at
+index_by stream [] at lt passes before = absurd (omega arith)
+index_by stream (row ∷ rows) zero lt passes before = record {
   within = lt;
   found = λ d. cond-true (is_of stream row) (Some row) (windows_on stream rows) (passes d);
   named = λ d. eqb-true row.stream stream (passes d);
   put = λ new e. cond-true (is_of new.stream row) (new ∷ rows) (row ∷ with_windows new rows) (ap (λ s. is_of s row) e ∙ passes row);
   removed = cond-true (is_of stream row) rows (row ∷ without_stream stream rows) (passes row);
 }
-place_by stream (row ∷ rows) (suc at) lt passes before =
+index_by stream (row ∷ rows) (suc at) lt passes before =
     let no : is_of stream row ≡ false = before 0 row (omega arith) in
-    let rest = place_by stream rows at (omega arith) passes (λ k d below. before (suc k) d (omega arith)) in
+    let rest = index_by stream rows at (omega arith) passes (λ k d below. before (suc k) d (omega arith)) in
     record {
       within = lt;
       found = λ d. cond-false (is_of stream row) (Some row) (windows_on stream rows) no ∙ rest.found d;
@@ -55,16 +55,16 @@ place_by stream (row ∷ rows) (suc at) lt passes before =
       removed = cond-false (is_of stream row) rows (row ∷ without_stream stream rows) no ∙ ap (λ others. row ∷ others) rest.removed;
     }
 
-pub is_place : (stream : ℕ) (rows : List StreamWindows) (at : ℕ) → position (is_of stream) rows ≡ Some at → IsPlaceOf stream rows at
-is_place stream rows at e =
-    place_by stream rows at (position-Some (is_of stream) rows at (new_windows 0) e).0 (λ d. (position-Some (is_of stream) rows at d e).1) (λ k d lt. (position-Some (is_of stream) rows at d e).2 k lt)
+pub is_index : (stream : ℕ) (rows : List StreamWindows) (at : ℕ) → position (is_of stream) rows ≡ Some at → IsIndexOf stream rows at
+is_index stream rows at e =
+    index_by stream rows at (position-Some (is_of stream) rows at (new_windows 0) e).0 (λ d. (position-Some (is_of stream) rows at d e).1) (λ k d lt. (position-Some (is_of stream) rows at d e).2 k lt)
 
--- what the place that was found says
-pub place_tells : (stream : ℕ) (rows : List StreamWindows) (place : Option ℕ) → place ≡ position (is_of stream) rows → IfNone place (IsClosed stream rows) × IfSome place (IsPlaceOf stream rows)
-place_tells stream rows None e = (no_place stream rows (sym e), tt)
-place_tells stream rows (Some at) e = (tt, is_place stream rows at (sym e))
+-- what the index that was found says
+pub index_says : (stream : ℕ) (rows : List StreamWindows) (index : Option ℕ) → index ≡ position (is_of stream) rows → IfNone index (IsClosed stream rows) × IfSome index (IsIndexOf stream rows)
+index_says stream rows None e = (no_index stream rows (sym e), tt)
+index_says stream rows (Some at) e = (tt, is_index stream rows at (sym e))
 
--- a stream is open where it has a place
-pub open_by_place : (stream : ℕ) (rows : List StreamWindows) (place : Option ℕ) → IfNone place (IsClosed stream rows) → IfSome place (IsPlaceOf stream rows) → is_some place ≡ is_some (windows_on stream rows)
-open_by_place stream rows None closed stands = ap is_some (sym closed.found)
-open_by_place stream rows (Some at) closed stands = ap is_some (sym (stands.found (new_windows stream)))
+-- a stream is open where it has an index
+pub open_by_index : (stream : ℕ) (rows : List StreamWindows) (index : Option ℕ) → IfNone index (IsClosed stream rows) → IfSome index (IsIndexOf stream rows) → is_some index ≡ is_some (windows_on stream rows)
+open_by_index stream rows None closed stands = ap is_some (sym closed.found)
+open_by_index stream rows (Some at) closed stands = ap is_some (sym (stands.found (new_windows stream)))

@@ -19,7 +19,7 @@ record HasSums (given spent arrived initial : ℕ) (row : StreamWindows) : Type 
   receive : row.receive + arrived ≡ FIRST_WINDOW
   bounded : send_window_of initial row ≤ℤ pos GREATEST_WINDOW
 
--- what is so at every moment: the stream is open as told, and if it is, its windows are these sums
+-- what is so at every moment: the stream is open as reported, and if it is, its windows are these sums
 record Tracks (stream given spent arrived : ℕ) (is_it_open : Bool) (initial : ℕ) (rows : List StreamWindows) : Type 0 where
   apart : AreApart rows
   setting : initial ≤ GREATEST_WINDOW
@@ -40,7 +40,7 @@ closed_tracks stream i s r i' s' r' o initial rows tracks none = record {
   sums = λ row found. let no : None ≡ Some row = sym none ∙ found in absurd (cc no);
 }
 
--- windows that are put in the place of a stream's
+-- windows that are put in place of a stream's
 put_tracks : (stream changed : ℕ) (new row : StreamWindows) (i s r i' s' r' : ℕ) (o : Bool) (initial : ℕ) (rows : List StreamWindows)
     → Tracks stream i s r o initial rows → windows_on changed rows ≡ Some row → new.stream ≡ changed
     → (changed ≡ stream → HasSums i s r initial row → HasSums i' s' r' initial new)
@@ -60,14 +60,14 @@ put_tracks stream changed new row i s r i' s' r' o initial rows tracks found nam
           }
       | inr h ↦
           let stays : windows_on stream (with_windows new rows) ≡ windows_on stream rows = windows_on-with_other stream new rows (λ e. h.1 (sym named ∙ e)) in
-          let kept = others h.1 in
+          let others_stay = others h.1 in
           same_tracks stream i s r i' s' r' o initial (with_windows new rows)
           (record {
             apart = AreApart-with new rows tracks.apart;
             setting = tracks.setting;
             flag = ap is_some stays ∙ tracks.flag;
             sums = λ other is. tracks.sums other (sym stays ∙ is);
-          }) kept.0 kept.1 kept.2
+          }) others_stay.0 others_stay.1 others_stay.2
     ]
 
 -- `only` at the stream and at another
@@ -106,19 +106,19 @@ module _ (stream i s r : ℕ) (o : Bool) (positive : 0 < stream) where
       ]
   received_on_tracks (Some row) other octets w is tracks = received_on_cases (ltb row.receive octets) row other octets (record w { receive = w.receive - octets }) refl is tracks
 
-  received_behind : (is_connection : Bool) (other octets : ℕ) (w : Windows) → eqb other 0 ≡ is_connection → Tracks stream i s r o w.initial w.streams → let rest : Windows = record w { receive = w.receive - octets } in
+  received_after : (is_connection : Bool) (other octets : ℕ) (w : Windows) → eqb other 0 ≡ is_connection → Tracks stream i s r o w.initial w.streams → let rest : Windows = record w { receive = w.receive - octets } in
       Receives other octets (cond is_connection (no_fault rest) (receipt_on (windows_on other w.streams) octets rest))
   unfolding Receives
-  received_behind true other octets w is tracks =
+  received_after true other octets w is tracks =
       let ne : other ≢ stream = λ e. absurd (omega (arith, e, eqb-true other 0 is)) in
       same_tracks stream i s r (i + 0) (s + 0) (r + only stream other octets) o w.initial w.streams tracks (omega arith) (omega arith) (omega (arith, only_other stream other octets ne))
-  received_behind false other octets w is tracks = received_on_tracks (windows_on other w.streams) other octets w refl tracks
+  received_after false other octets w is tracks = received_on_tracks (windows_on other w.streams) other octets w refl tracks
 
   received_cases : (short : Bool) (other octets : ℕ) (w : Windows) → Tracks stream i s r o w.initial w.streams → let rest : Windows = record w { receive = w.receive - octets } in
       Receives other octets (cond short (fault_of_connection w) (cond (eqb other 0) (no_fault rest) (receipt_on (windows_on other w.streams) octets rest)))
   unfolding Receives
   received_cases true other octets w tracks = same_tracks stream i s r (i + 0) (s + 0) (r + 0) o w.initial w.streams tracks (omega arith) (omega arith) (omega arith)
-  received_cases false other octets w tracks = received_behind (eqb other 0) other octets w refl tracks
+  received_cases false other octets w tracks = received_after (eqb other 0) other octets w refl tracks
 
   -- ---- DATA that was sent
 
@@ -260,7 +260,7 @@ module _ (stream i s r : ℕ) (o : Bool) (positive : 0 < stream) where
 
 -- ---- one call, and all of them
 
--- what is so behind a call
+-- what is so after a call
 TracksBehind : ℕ → Call → ℕ → ℕ → ℕ → Bool → Windows → Type 0
 TracksBehind stream call i s r o w =
     Tracks stream (cond (opens stream call) 0 (i + increment_for stream call)) (cond (opens stream call) 0 (s + octets_sent_on stream call)) (cond (opens stream call) 0 (r + octets_arrived_on stream call)) (cond (opens stream call) true (cond (closes stream call) false o)) w.initial w.streams

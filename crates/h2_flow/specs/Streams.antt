@@ -44,8 +44,8 @@ pub record IsClosed (stream : ℕ) (rows : List StreamWindows) : Type 0 where
   pub found : windows_on stream rows ≡ None
   pub removed : without_stream stream rows ≡ rows
 
--- the stream's windows stand at this place
-pub record IsPlaceOf (stream : ℕ) (rows : List StreamWindows) (at : ℕ) : Type 0 where
+-- the stream's windows stand at this index
+pub record IsIndexOf (stream : ℕ) (rows : List StreamWindows) (at : ℕ) : Type 0 where
   pub within : at < length rows
   pub found : (other : StreamWindows) → windows_on stream rows ≡ Some (slice_index_or rows at other)
   pub named : (other : StreamWindows) → (slice_index_or rows at other).stream ≡ stream

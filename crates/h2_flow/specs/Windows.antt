@@ -45,7 +45,7 @@ after_closing stream w = record w { streams = without_stream stream w.streams }
 
 -- ---- answers
 
--- the answer of a call that may tell a fault, and the windows after it
+-- the answer of a call that may report a fault, and the windows after it
 pub record Answer : Type 0 where
   pub fault : Option FlowFault
   pub windows : Windows
@@ -131,7 +131,7 @@ answer_at_update stream increment w = if stream == 0 then
     (if nat_lt GREATEST_WINDOW (w.send + increment) then fault_of_connection w else no_fault (record w { send = w.send + increment }))
     else update_on (windows_on stream w.streams) increment w
 
--- an increment of so much tells no fault
+-- an increment of so much reports no fault
 abbrev pub has_room_for : ℕ → ℕ → Windows → Bool
 has_room_for stream increment w = is_none (answer_at_update stream increment w).fault
 

@@ -1,7 +1,7 @@
 //! The windows as sums, over any list of calls.
-ghost use Rattle.std.specs.Prelude.{◌≡◌, ◌+◌, ◌<◌, ℕ, List};
+ghost use Rattle.std.specs.Prelude.{◌<◌, ℕ, List};
 ghost use Rattle.h2_flow.specs.Windows.{Windows, first_windows, answer_at_receipt, answer_at_update, answer_at_setting};
-ghost use Rattle.h2_flow.specs.Faults.{IsJudgedAtReceipt, IsJudgedAtUpdate, IsJudgedAtSetting};
+ghost use Rattle.h2_flow.specs.Faults.{IsCheckedAtReceipt, IsCheckedAtUpdate, IsCheckedAtSetting};
 ghost use Rattle.h2_flow.specs.History.{Call, IsRun, IsSummed, AreConnectionSums, AreStreamSums};
 
 /// What any list of calls does to the connection's windows and to the setting, from any windows on.
@@ -25,13 +25,13 @@ pub fn stream_law()
         → IsRun first_windows calls new → AreStreamSums stream calls new }
 {}
 
-/// When a call tells a fault, and what has changed after it.
+/// When a call reports a fault, and what has changed after it.
 #[tactic(auto, using(crate::specs::FaultLaws::receipt_law, crate::specs::FaultLaws::update_law, crate::specs::FaultLaws::setting_law))]
 pub fn faults_law()
     ensures receipt { (stream octets : ℕ) (w : Windows)
-        → IsJudgedAtReceipt stream octets w (answer_at_receipt stream octets w) }
+        → IsCheckedAtReceipt stream octets w (answer_at_receipt stream octets w) }
     ensures update { (stream increment : ℕ) (w : Windows)
-        → IsJudgedAtUpdate stream increment w (answer_at_update stream increment w) }
+        → IsCheckedAtUpdate stream increment w (answer_at_update stream increment w) }
     ensures setting { (value : ℕ) (w : Windows)
-        → IsJudgedAtSetting value w (answer_at_setting value w) }
+        → IsCheckedAtSetting value w (answer_at_setting value w) }
 {}

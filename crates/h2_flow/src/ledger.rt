@@ -4,7 +4,7 @@ ghost use Rattle.h2_flow.specs.Windows.{first_windows, is_open, after_opening, a
 ghost use Rattle.h2_flow.specs.Streams.{octets_of};
 
 use crate::limits::{FIRST_WINDOW, GREATEST_WINDOW, OPEN_STREAMS};
-use crate::stream_windows::{StreamWindows, is_too_great, place_of};
+use crate::stream_windows::{StreamWindows, index_of, is_too_great};
 use esi_base::NoMemory;
 use std::alloc::Global;
 use std::marker::Model;
@@ -52,11 +52,11 @@ impl Ledger {
     }
 
     /// Whether the stream is open.
-    #[tactic(auto, using(crate::specs::StreamLaws::open_by_place))]
+    #[tactic(auto, using(crate::specs::StreamLaws::open_by_index))]
     pub fn is_open(&self, stream: u32) -> bool
         ensures { result ≡ is_open stream self.now }
     {
-        place_of(&self.streams, stream).is_some()
+        index_of(&self.streams, stream).is_some()
     }
 
     /// Opens a stream, with new windows. It is for a stream that is neither open nor 0, while fewer than
@@ -77,7 +77,7 @@ impl Ledger {
     pub fn close_stream(&mut self, stream: u32)
         ensures { self.new ≡ after_closing stream self.old }
     {
-        if let Some(at) = place_of(&self.streams, stream) {
+        if let Some(at) = index_of(&self.streams, stream) {
             let _closed = self.streams.remove(at);
         }
     }
@@ -97,7 +97,7 @@ impl Ledger {
         if stream == 0 {
             return Ok(());
         }
-        if let Some(at) = place_of(&self.streams, stream) {
+        if let Some(at) = index_of(&self.streams, stream) {
             let row = &mut self.streams[at];
             if row.receive < octets {
                 return Err(FlowFault { whole: false });
@@ -108,14 +108,14 @@ impl Ledger {
     }
 
     /// The window to receive of a stream, or of the connection where the stream is 0: how many octets of
-    /// DATA may still arrive before `received` tells a fault. It is 0 where the stream is not open.
+    /// DATA may still arrive before `received` reports a fault. It is 0 where the stream is not open.
     pub fn receive_window(&self, stream: u32) -> u32
         ensures { result ≡ receive_window stream self.now }
     {
         if stream == 0 {
             return self.receive;
         }
-        match place_of(&self.streams, stream) {
+        match index_of(&self.streams, stream) {
             None => 0,
             Some(at) => self.streams[at].receive,
         }
@@ -141,7 +141,7 @@ impl Ledger {
         if stream == 0 {
             return i64::from(self.send);
         }
-        match place_of(&self.streams, stream) {
+        match index_of(&self.streams, stream) {
             None => 0,
             Some(at) => self.streams[at].send_window(self.initial),
         }
@@ -152,7 +152,7 @@ impl Ledger {
     pub fn may_send(&self, stream: u32) -> u32
         ensures { result ≡ may_send stream self.now }
     {
-        match place_of(&self.streams, stream) {
+        match index_of(&self.streams, stream) {
             None => 0,
             Some(at) => {
                 let window = self.streams[at].send_window(self.initial);
@@ -167,7 +167,7 @@ impl Ledger {
         requires { octets ≤ may_send stream self.old }
         ensures { self.new ≡ after_sending stream octets self.old }
     {
-        if let Some(at) = place_of(&self.streams, stream) {
+        if let Some(at) = index_of(&self.streams, stream) {
             self.send -= octets;
             let row = &mut self.streams[at];
             row.spend(octets);
@@ -186,7 +186,7 @@ impl Ledger {
                 return Err(FlowFault { whole: true });
             }
             self.send += increment;
-        } else if let Some(at) = place_of(&self.streams, stream) {
+        } else if let Some(at) = index_of(&self.streams, stream) {
             let initial = self.initial;
             let row = &mut self.streams[at];
             if is_too_great(row.send_window_with(initial, increment)) {
@@ -197,14 +197,14 @@ impl Ledger {
         Ok(())
     }
 
-    /// Whether `update` would take an increment, and tell no fault.
+    /// Whether `update` would take an increment, and report no fault.
     pub fn has_room_for(&self, stream: u32, increment: u32) -> bool
         ensures { result ≡ has_room_for stream increment self.now }
     {
         if stream == 0 {
             return increment <= GREATEST_WINDOW - self.send;
         }
-        match place_of(&self.streams, stream) {
+        match index_of(&self.streams, stream) {
             None => true,
             Some(at) => {
                 let window = self.streams[at].send_window_with(self.initial, increment);

@@ -12,8 +12,8 @@ pub const FIRST_WINDOW: u32 = 65_535;
 /// opening streams, which is had once, when the ledger is made.
 pub const OPEN_STREAMS: usize = 64;
 
-const _: () = prove!(GREATEST_WINDOW == 0x7fff_ffff);
+const _: () = prove!(GREATEST_WINDOW == 2147483647);
 
-const _: () = prove!(FIRST_WINDOW == 0xffff);
+const _: () = prove!(FIRST_WINDOW == 65535);
 
 const _: () = prove!(OPEN_STREAMS == 64);

@@ -1,10 +1,10 @@
-//! The windows of one open stream, and its place among the open streams.
+//! The windows of one open stream, and its index among them.
 ghost use Rattle.std.specs.Prelude.{◌≡◌, pos, ◌+ℤ◌, ◌-ℤ◌, ◌≤◌, ◌≤ℤ◌, IfNone, IfSome};
-ghost use Rattle.h2_flow.specs.Streams.{send_window_of, octets_of, is_too_great, IsPlaceOf, IsClosed};
+ghost use Rattle.h2_flow.specs.Streams.{send_window_of, octets_of, is_too_great, IsIndexOf, IsClosed};
 
 use crate::limits::GREATEST_WINDOW;
 
-/// What is kept of an open stream.
+/// The windows of an open stream.
 #[derive(Clone, Copy, Debug, PartialEq, Eq)]
 pub struct StreamWindows {
     /// The stream's identifier.
@@ -58,9 +58,9 @@ pub(crate) fn is_too_great(window: i64) -> bool
 }
 
 /// Where an open stream stands among the others; None exactly where it is not open.
-pub(crate) fn place_of(streams: &[StreamWindows], stream: u32) -> Option<usize>
+pub(crate) fn index_of(streams: &[StreamWindows], stream: u32) -> Option<usize>
     ensures closed { IfNone result (IsClosed stream streams.now) }
-    ensures place { IfSome result (IsPlaceOf stream streams.now) }
+    ensures index { IfSome result (IsIndexOf stream streams.now) }
 {
     streams.iter().position(|row| row.stream == stream)
 }

@@ -11,7 +11,7 @@ use Rattle.h2_layouts.specs.Headers.{header_of}
 use Rattle.h2_layouts.specs.Rules.{broken_header}
 use Rattle.h2_frames.specs.declared.front.Front.{Front}
 use Rattle.h2_frames.specs.declared.front.Front.TheVariants.{Whole, Broken, Unfinished}
-use Rattle.h2_frames.specs.Front.{judged_front, front_behind, front_of}
+use Rattle.h2_frames.specs.Front.{front_by_rule, front_after_preface, front_of}
 use Rattle.h2_frames.specs.Prefaces.{agrees, preface_due}
 use Rattle.h2_frames.specs.Reading.{Reading}
 use Rattle.h2_frames.specs.Streams.{BreaksPreface, BreaksHeader, Breaks}
@@ -34,7 +34,7 @@ agreed (a ∷ text) (b ∷ octets) e h =
     let others : agrees text octets ≡ true = grind (arith, nat_tests) in
     ap (λ x. x ∷ octets) (sym same) ∙ ap (λ x. a ∷ x) (agreed text octets others (omega arith))
 
--- a place at which two texts differ
+-- an offset at which two texts differ
 pub record Differs (text octets : List ℕ) : Type 0 where
   pub at : ℕ
   pub stands : at < length octets
@@ -67,114 +67,114 @@ differing (a ∷ text) (b ∷ octets) (suc at) s u n e = differing text octets a
 
 -- ---- the first nine octets
 
--- nine octets are judged as a header
-pub nine_judged : (context : FrameContext) (before : ℕ) (nine behind : List ℕ) → length nine ≡ 9
-    → front_behind context before (nine ++ behind) ≡ judged_front (broken_header context (header_of nine)) (header_of nine) before (length behind)
-nine_judged context before (a ∷ b ∷ c ∷ d ∷ e ∷ f ∷ g ∷ h ∷ i ∷ []) behind n = refl
-nine_judged context before (a ∷ b ∷ c ∷ d ∷ e ∷ f ∷ g ∷ h ∷ i ∷ j ∷ nine) behind n = absurd (omega arith)
-nine_judged context before [] behind n = absurd (omega arith)
-nine_judged context before (a ∷ []) behind n = absurd (omega arith)
-nine_judged context before (a ∷ b ∷ []) behind n = absurd (omega arith)
-nine_judged context before (a ∷ b ∷ c ∷ []) behind n = absurd (omega arith)
-nine_judged context before (a ∷ b ∷ c ∷ d ∷ []) behind n = absurd (omega arith)
-nine_judged context before (a ∷ b ∷ c ∷ d ∷ e ∷ []) behind n = absurd (omega arith)
-nine_judged context before (a ∷ b ∷ c ∷ d ∷ e ∷ f ∷ []) behind n = absurd (omega arith)
-nine_judged context before (a ∷ b ∷ c ∷ d ∷ e ∷ f ∷ g ∷ []) behind n = absurd (omega arith)
-nine_judged context before (a ∷ b ∷ c ∷ d ∷ e ∷ f ∷ g ∷ h ∷ []) behind n = absurd (omega arith)
+-- nine octets are checked as a header
+pub nine_front : (context : FrameContext) (before : ℕ) (nine following : List ℕ) → length nine ≡ 9
+    → front_after_preface context before (nine ++ following) ≡ front_by_rule (broken_header context (header_of nine)) (header_of nine) before (length following)
+nine_front context before (a ∷ b ∷ c ∷ d ∷ e ∷ f ∷ g ∷ h ∷ i ∷ []) following n = refl
+nine_front context before (a ∷ b ∷ c ∷ d ∷ e ∷ f ∷ g ∷ h ∷ i ∷ j ∷ nine) following n = absurd (omega arith)
+nine_front context before [] following n = absurd (omega arith)
+nine_front context before (a ∷ []) following n = absurd (omega arith)
+nine_front context before (a ∷ b ∷ []) following n = absurd (omega arith)
+nine_front context before (a ∷ b ∷ c ∷ []) following n = absurd (omega arith)
+nine_front context before (a ∷ b ∷ c ∷ d ∷ []) following n = absurd (omega arith)
+nine_front context before (a ∷ b ∷ c ∷ d ∷ e ∷ []) following n = absurd (omega arith)
+nine_front context before (a ∷ b ∷ c ∷ d ∷ e ∷ f ∷ []) following n = absurd (omega arith)
+nine_front context before (a ∷ b ∷ c ∷ d ∷ e ∷ f ∷ g ∷ []) following n = absurd (omega arith)
+nine_front context before (a ∷ b ∷ c ∷ d ∷ e ∷ f ∷ g ∷ h ∷ []) following n = absurd (omega arith)
 
--- a header that was judged, in octets
-record IsJudged (context : FrameContext) (before : ℕ) (octets : List ℕ) (front : Front) : Type 0 where
+-- a header that was checked, in octets
+record HasHeader (context : FrameContext) (before : ℕ) (octets : List ℕ) (front : Front) : Type 0 where
   nine : List ℕ
-  behind : List ℕ
-  whole : octets ≡ nine ++ behind
+  following : List ℕ
+  whole : octets ≡ nine ++ following
   nine_len : length nine ≡ 9
-  judged : judged_front (broken_header context (header_of nine)) (header_of nine) before (length behind) ≡ front
+  front_is : front_by_rule (broken_header context (header_of nine)) (header_of nine) before (length following) ≡ front
 
--- what is not unfinished was judged by nine octets
-judged_nine : (context : FrameContext) (before : ℕ) (octets : List ℕ) (front : Front) → front_behind context before octets ≡ front → front ≢ Unfinished → IsJudged context before octets front
-judged_nine context before (a ∷ b ∷ c ∷ d ∷ e ∷ f ∷ g ∷ h ∷ i ∷ behind) front r n =
-    record { nine = a ∷ b ∷ c ∷ d ∷ e ∷ f ∷ g ∷ h ∷ i ∷ []; behind = behind; whole = refl; nine_len = refl; judged = r }
-judged_nine context before [] front r n = absurd (n (sym r))
-judged_nine context before (a ∷ []) front r n = absurd (n (sym r))
-judged_nine context before (a ∷ b ∷ []) front r n = absurd (n (sym r))
-judged_nine context before (a ∷ b ∷ c ∷ []) front r n = absurd (n (sym r))
-judged_nine context before (a ∷ b ∷ c ∷ d ∷ []) front r n = absurd (n (sym r))
-judged_nine context before (a ∷ b ∷ c ∷ d ∷ e ∷ []) front r n = absurd (n (sym r))
-judged_nine context before (a ∷ b ∷ c ∷ d ∷ e ∷ f ∷ []) front r n = absurd (n (sym r))
-judged_nine context before (a ∷ b ∷ c ∷ d ∷ e ∷ f ∷ g ∷ []) front r n = absurd (n (sym r))
-judged_nine context before (a ∷ b ∷ c ∷ d ∷ e ∷ f ∷ g ∷ h ∷ []) front r n = absurd (n (sym r))
+-- what is not unfinished was checked by nine octets
+front_nine : (context : FrameContext) (before : ℕ) (octets : List ℕ) (front : Front) → front_after_preface context before octets ≡ front → front ≢ Unfinished → HasHeader context before octets front
+front_nine context before (a ∷ b ∷ c ∷ d ∷ e ∷ f ∷ g ∷ h ∷ i ∷ following) front r n =
+    record { nine = a ∷ b ∷ c ∷ d ∷ e ∷ f ∷ g ∷ h ∷ i ∷ []; following = following; whole = refl; nine_len = refl; front_is = r }
+front_nine context before [] front r n = absurd (n (sym r))
+front_nine context before (a ∷ []) front r n = absurd (n (sym r))
+front_nine context before (a ∷ b ∷ []) front r n = absurd (n (sym r))
+front_nine context before (a ∷ b ∷ c ∷ []) front r n = absurd (n (sym r))
+front_nine context before (a ∷ b ∷ c ∷ d ∷ []) front r n = absurd (n (sym r))
+front_nine context before (a ∷ b ∷ c ∷ d ∷ e ∷ []) front r n = absurd (n (sym r))
+front_nine context before (a ∷ b ∷ c ∷ d ∷ e ∷ f ∷ []) front r n = absurd (n (sym r))
+front_nine context before (a ∷ b ∷ c ∷ d ∷ e ∷ f ∷ g ∷ []) front r n = absurd (n (sym r))
+front_nine context before (a ∷ b ∷ c ∷ d ∷ e ∷ f ∷ g ∷ h ∷ []) front r n = absurd (n (sym r))
 
 -- ---- judgements of a header
 
-pub record LetThrough (rule : Option FrameRule) (header found : FrameHeader) (before behind from : ℕ) : Type 0 where
+pub record LetThrough (rule : Option FrameRule) (header found : FrameHeader) (before following from : ℕ) : Type 0 where
   pub lawful : rule ≡ None
   pub header_is : header ≡ found
   pub from_is : from ≡ before + 9
-  pub there : header.length ≤ behind
+  pub there : header.length ≤ following
 
-pub let_through : (rule : Option FrameRule) (header found : FrameHeader) (before behind from : ℕ) → judged_front rule header before behind ≡ Whole found from → LetThrough rule header found before behind from
-let_through (Some rule) header found before behind from e = absurd (cc e)
-let_through None header found before behind from e = of (nat_lt behind header.length) refl e
+pub let_through : (rule : Option FrameRule) (header found : FrameHeader) (before following from : ℕ) → front_by_rule rule header before following ≡ Whole found from → LetThrough rule header found before following from
+let_through (Some rule) header found before following from e = absurd (cc e)
+let_through None header found before following from e = of (nat_lt following header.length) refl e
   where
-    of : (short : Bool) → nat_lt behind header.length ≡ short → (if short then Unfinished else Whole header (before + 9)) ≡ Whole found from → LetThrough None header found before behind from
+    of : (short : Bool) → nat_lt following header.length ≡ short → (if short then Unfinished else Whole header (before + 9)) ≡ Whole found from → LetThrough None header found before following from
     of true s g = absurd (cc g)
     of false s g = record { lawful = refl; header_is = cc g; from_is = cc g; there = grind (arith, nat_tests, s) }
 
-stopped : (rule : Option FrameRule) (header : FrameHeader) (before behind : ℕ) (first : FrameRule) → judged_front rule header before behind ≡ Broken first → rule ≡ Some first
-stopped (Some rule) header before behind first e = cc e
-stopped None header before behind first e = of (nat_lt behind header.length) e
+broken_first : (rule : Option FrameRule) (header : FrameHeader) (before following : ℕ) (first : FrameRule) → front_by_rule rule header before following ≡ Broken first → rule ≡ Some first
+broken_first (Some rule) header before following first e = cc e
+broken_first None header before following first e = of (nat_lt following header.length) e
   where
     of : (short : Bool) → (if short then Unfinished else Whole header (before + 9)) ≡ Broken first → None ≡ Some first
     of true g = absurd (cc g)
     of false g = absurd (cc g)
 
-pub judged_whole : (header : FrameHeader) (before behind : ℕ) → header.length ≤ behind → judged_front None header before behind ≡ Whole header (before + 9)
-judged_whole header before behind h =
-    let enough : nat_lt behind header.length ≡ false = grind (arith, nat_tests) in
+pub whole_by_rule : (header : FrameHeader) (before following : ℕ) → header.length ≤ following → front_by_rule None header before following ≡ Whole header (before + 9)
+whole_by_rule header before following h =
+    let enough : nat_lt following header.length ≡ false = grind (arith, nat_tests) in
     ap (λ b. if b then Unfinished else Whole header (before + 9)) enough
 
--- ---- behind the preface
+-- ---- after the preface
 
 abbrev pub due_len : FrameContext → ℕ
 due_len context = length (preface_due context)
 
--- octets that begin with the preface, where it is due, are judged behind it
-pub front_due : (context : FrameContext) (octets behind : List ℕ) → octets ≡ preface_due context ++ behind → front_of context octets ≡ front_behind context (due_len context) behind
-front_due context octets behind e =
+-- octets that begin with the preface, where it is due, are checked after it
+pub front_due : (context : FrameContext) (octets following : List ℕ) → octets ≡ preface_due context ++ following → front_of context octets ≡ front_after_preface context (due_len context) following
+front_due context octets following e =
     ap (λ o. front_of context o) e
-    ∙ ap (λ b. if b then front_behind context (due_len context) (drop (due_len context) (preface_due context ++ behind)) else Broken Preface) (agrees_front (preface_due context) behind)
-    ∙ ap (λ o. front_behind context (due_len context) o) (drop_at (preface_due context) behind (due_len context) refl)
+    ∙ ap (λ b. if b then front_after_preface context (due_len context) (drop (due_len context) (preface_due context ++ following)) else Broken Preface) (agrees_front (preface_due context) following)
+    ∙ ap (λ o. front_after_preface context (due_len context) o) (drop_at (preface_due context) following (due_len context) refl)
 
--- what was judged behind the preface
-pub record IsJudgedDue (context : FrameContext) (octets : List ℕ) (front : Front) : Type 0 where
+-- what was checked after the preface
+pub record HasHeaderDue (context : FrameContext) (octets : List ℕ) (front : Front) : Type 0 where
   pub nine : List ℕ
-  pub behind : List ℕ
-  pub whole : octets ≡ preface_due context ++ (nine ++ behind)
+  pub following : List ℕ
+  pub whole : octets ≡ preface_due context ++ (nine ++ following)
   pub nine_len : length nine ≡ 9
-  pub judged : judged_front (broken_header context (header_of nine)) (header_of nine) (due_len context) (length behind) ≡ front
+  pub front_is : front_by_rule (broken_header context (header_of nine)) (header_of nine) (due_len context) (length following) ≡ front
 
-short_drop : (n : ℕ) (octets nine behind : List ℕ) → drop n octets ≡ nine ++ behind → length nine ≡ 9 → n ≤ length octets
-short_drop n octets nine behind e k = omega (arith, ap length e, length-append nine behind, length-drop n octets)
+short_drop : (n : ℕ) (octets nine following : List ℕ) → drop n octets ≡ nine ++ following → length nine ≡ 9 → n ≤ length octets
+short_drop n octets nine following e k = omega (arith, ap length e, length-append nine following, length-drop n octets)
 
-judged_due : (context : FrameContext) (octets : List ℕ) (front : Front) → agrees (preface_due context) octets ≡ true
-    → IsJudged context (due_len context) (drop (due_len context) octets) front → IsJudgedDue context octets front
-judged_due context octets front a j = record {
+header_due : (context : FrameContext) (octets : List ℕ) (front : Front) → agrees (preface_due context) octets ≡ true
+    → HasHeader context (due_len context) (drop (due_len context) octets) front → HasHeaderDue context octets front
+header_due context octets front a j = record {
   nine = j.nine;
-  behind = j.behind;
-  whole = agreed (preface_due context) octets a (short_drop (due_len context) octets j.nine j.behind j.whole j.nine_len) ∙ ap (λ o. preface_due context ++ o) j.whole;
+  following = j.following;
+  whole = agreed (preface_due context) octets a (short_drop (due_len context) octets j.nine j.following j.whole j.nine_len) ∙ ap (λ o. preface_due context ++ o) j.whole;
   nine_len = j.nine_len;
-  judged = j.judged;
+  front_is = j.front_is;
 }
 
 -- a whole frame was found
-pub front_whole : (context : FrameContext) (octets : List ℕ) (header : FrameHeader) (from : ℕ) → front_of context octets ≡ Whole header from → IsJudgedDue context octets (Whole header from)
+pub front_whole : (context : FrameContext) (octets : List ℕ) (header : FrameHeader) (from : ℕ) → front_of context octets ≡ Whole header from → HasHeaderDue context octets (Whole header from)
 front_whole context octets header from e = of (agrees (preface_due context) octets) refl e
   where
     whole_is : Whole header from ≢ Unfinished
     whole_is e = cc e
 
-    of : (same : Bool) → agrees (preface_due context) octets ≡ same → (if same then front_behind context (due_len context) (drop (due_len context) octets) else Broken Preface) ≡ Whole header from → IsJudgedDue context octets (Whole header from)
-    of true a g = judged_due context octets (Whole header from) a (judged_nine context (due_len context) (drop (due_len context) octets) (Whole header from) g whole_is)
+    of : (same : Bool) → agrees (preface_due context) octets ≡ same → (if same then front_after_preface context (due_len context) (drop (due_len context) octets) else Broken Preface) ≡ Whole header from → HasHeaderDue context octets (Whole header from)
+    of true a g = header_due context octets (Whole header from) a (front_nine context (due_len context) (drop (due_len context) octets) (Whole header from) g whole_is)
     of false a g = absurd (cc g)
 
 -- a rule is broken by the preface, or by a header
@@ -187,9 +187,9 @@ front_broken old rule e = of (agrees (preface_due old.context) old.unread) refl 
     by_preface : Differs (preface_due old.context) old.unread → BreaksPreface old
     by_preface d = record { at = d.at; stands = d.stands; due = d.due; differs = d.differs }
 
-    by_header : IsJudgedDue old.context old.unread (Broken rule) → BreaksHeader old rule
-    by_header j = record { nine = j.nine; behind = j.behind; whole = j.whole; nine_len = j.nine_len; broken = stopped (broken_header old.context (header_of j.nine)) (header_of j.nine) (due_len old.context) (length j.behind) rule j.judged }
+    by_header : HasHeaderDue old.context old.unread (Broken rule) → BreaksHeader old rule
+    by_header j = record { nine = j.nine; following = j.following; whole = j.whole; nine_len = j.nine_len; broken = broken_first (broken_header old.context (header_of j.nine)) (header_of j.nine) (due_len old.context) (length j.following) rule j.front_is }
 
-    of : (same : Bool) → agrees (preface_due old.context) old.unread ≡ same → (if same then front_behind old.context (due_len old.context) (drop (due_len old.context) old.unread) else Broken Preface) ≡ Broken rule → Breaks old rule
-    of true a g = inr (inl (by_header (judged_due old.context old.unread (Broken rule) a (judged_nine old.context (due_len old.context) (drop (due_len old.context) old.unread) (Broken rule) g broken_is))))
+    of : (same : Bool) → agrees (preface_due old.context) old.unread ≡ same → (if same then front_after_preface old.context (due_len old.context) (drop (due_len old.context) old.unread) else Broken Preface) ≡ Broken rule → Breaks old rule
+    of true a g = inr (inl (by_header (header_due old.context old.unread (Broken rule) a (front_nine old.context (due_len old.context) (drop (due_len old.context) old.unread) (Broken rule) g broken_is))))
     of false a g = inl (cc g, by_preface (disagreed (preface_due old.context) old.unread a))

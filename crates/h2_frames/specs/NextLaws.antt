@@ -13,22 +13,22 @@ use Rattle.h2_layouts.specs.PayloadReading.{frame_of}
 use Rattle.h2_layouts.specs.Rules.{broken_header, code_of}
 use Rattle.h2_frames.specs.declared.front.Front.{Front}
 use Rattle.h2_frames.specs.declared.front.Front.TheVariants.{Whole, Broken, Unfinished}
-use Rattle.h2_frames.specs.Front.{judged_front, front_behind, front_of}
-use Rattle.h2_frames.specs.FrontLaws.{differing, nine_judged, judged_whole, front_due, IsJudgedDue, front_whole, LetThrough, let_through, front_broken}
+use Rattle.h2_frames.specs.Front.{front_by_rule, front_after_preface, front_of}
+use Rattle.h2_frames.specs.FrontLaws.{differing, nine_front, whole_by_rule, front_due, HasHeaderDue, front_whole, LetThrough, let_through, front_broken}
 use Rattle.h2_frames.specs.Prefaces.{agrees, preface_due}
-use Rattle.h2_frames.specs.Reading.{Reading, Next, behind_frame, next_of_payload, next_of_front, next_of}
-use Rattle.h2_frames.specs.Reading.Next.{Waits, Reads, Fails}
-use Rattle.h2_frames.specs.Streams.{Gives, BreaksPreface, BreaksHeader, BreaksPayload, Breaks, IsFault, IsUnfinished}
+use Rattle.h2_frames.specs.Reading.{Reading, Next, after_frame, next_of_payload, next_of_front, next_of}
+use Rattle.h2_frames.specs.Reading.Next.{NextUnfinished, NextFrame, NextFault}
+use Rattle.h2_frames.specs.Streams.{HandsOut, BreaksPreface, BreaksHeader, BreaksPayload, Breaks, IsFault, IsUnfinished}
 
--- ---- where the payload and what is behind it stand
+-- ---- where the payload and what is after it stand
 
-behind_header : (due nine behind unread : List ℕ) → unread ≡ due ++ (nine ++ behind) → length nine ≡ 9 → drop (length due + 9) unread ≡ behind
-behind_header due nine behind unread e n =
-    ap (λ o. drop (length due + 9) o) (e ∙ sym (append_assoc due nine behind))
-    ∙ drop_at (due ++ nine) behind (length due + 9) (length-append due nine ∙ ap (λ k. length due + k) n)
+after_header : (due nine following unread : List ℕ) → unread ≡ due ++ (nine ++ following) → length nine ≡ 9 → drop (length due + 9) unread ≡ following
+after_header due nine following unread e n =
+    ap (λ o. drop (length due + 9) o) (e ∙ sym (append_assoc due nine following))
+    ∙ drop_at (due ++ nine) following (length due + 9) (length-append due nine ∙ ap (λ k. length due + k) n)
 
-behind_payload : (due nine payload rest unread : List ℕ) → unread ≡ due ++ (nine ++ (payload ++ rest)) → length nine ≡ 9 → drop (length due + 9 + length payload) unread ≡ rest
-behind_payload due nine payload rest unread e n =
+after_payload : (due nine payload rest unread : List ℕ) → unread ≡ due ++ (nine ++ (payload ++ rest)) → length nine ≡ 9 → drop (length due + 9 + length payload) unread ≡ rest
+after_payload due nine payload rest unread e n =
     ap (λ o. drop (length due + 9 + length payload) o) (e ∙ sym (append_assoc due nine (payload ++ rest)) ∙ sym (append_assoc (due ++ nine) payload rest))
     ∙ drop_at ((due ++ nine) ++ payload) rest (length due + 9 + length payload)
     (length-append (due ++ nine) payload ∙ ap (λ k. k + length payload) (length-append due nine ∙ ap (λ k. length due + k) n))
@@ -39,9 +39,9 @@ found_front : (context : FrameContext) (nine payload rest unread : List ℕ) →
     → front_of context unread ≡ Whole (header_of nine) (length (preface_due context) + 9)
 found_front context nine payload rest unread e n k lawful =
     front_due context unread (nine ++ (payload ++ rest)) e
-    ∙ nine_judged context (length (preface_due context)) nine (payload ++ rest) n
-    ∙ ap (λ r. judged_front r (header_of nine) (length (preface_due context)) (length (payload ++ rest))) lawful
-    ∙ judged_whole (header_of nine) (length (preface_due context)) (length (payload ++ rest)) (omega (arith, length-append payload rest))
+    ∙ nine_front context (length (preface_due context)) nine (payload ++ rest) n
+    ∙ ap (λ r. front_by_rule r (header_of nine) (length (preface_due context)) (length (payload ++ rest))) lawful
+    ∙ whole_by_rule (header_of nine) (length (preface_due context)) (length (payload ++ rest)) (omega (arith, length-append payload rest))
 
 -- its payload is what is read
 found_next : (old : Reading) (nine payload rest : List ℕ) → old.unread ≡ preface_due old.context ++ (nine ++ (payload ++ rest)) → length nine ≡ 9
@@ -50,7 +50,7 @@ found_next : (old : Reading) (nine payload rest : List ℕ) → old.unread ≡ p
 found_next old nine payload rest e n k lawful =
     ap (λ f. next_of_front old f) (found_front old.context nine payload rest old.unread e n k lawful)
     ∙ ap (λ o. next_of_payload old (length (preface_due old.context) + 9 + (header_of nine).length) (frame_of old.context.role (header_of nine) (take (header_of nine).length o)))
-    (behind_header (preface_due old.context) nine (payload ++ rest) old.unread e n)
+    (after_header (preface_due old.context) nine (payload ++ rest) old.unread e n)
     ∙ ap (λ o. next_of_payload old (length (preface_due old.context) + 9 + (header_of nine).length) (frame_of old.context.role (header_of nine) o))
     (take_at payload rest (header_of nine).length k)
 
@@ -59,16 +59,16 @@ found_next old nine payload rest e n k lawful =
 same_reading : (one other : Reading) → one.context ≡ other.context → one.unread ≡ other.unread → one ≡ other
 same_reading one other c u = ap (λ x. record { context = x; unread = one.unread }) c ∙ ap (λ x. record { context = other.context; unread = x }) u
 
-pub gives_reads : (old : Reading) (frame : Frame) (new : Reading) → Gives old frame new → next_of old ≡ Reads frame new
-gives_reads old frame new g =
+pub hands_out_next : (old : Reading) (frame : Frame) (new : Reading) → HandsOut old frame new → next_of old ≡ NextFrame frame new
+hands_out_next old frame new g =
     let is = g.is_frame in
     let whole : old.unread ≡ preface_due old.context ++ (is.nine ++ (is.payload ++ new.unread))
     = g.whole ∙ ap (λ o. preface_due old.context ++ (o ++ new.unread)) is.whole ∙ ap (λ o. preface_due old.context ++ o) (append_assoc is.nine is.payload new.unread) in
     let left : drop (length (preface_due old.context) + 9 + (header_of is.nine).length) old.unread ≡ new.unread
-    = ap (λ k. drop (length (preface_due old.context) + 9 + k) old.unread) (sym is.payload_len) ∙ behind_payload (preface_due old.context) is.nine is.payload new.unread old.unread whole is.nine_len in
+    = ap (λ k. drop (length (preface_due old.context) + 9 + k) old.unread) (sym is.payload_len) ∙ after_payload (preface_due old.context) is.nine is.payload new.unread old.unread whole is.nine_len in
     found_next old is.nine is.payload new.unread whole is.nine_len is.payload_len g.stands
     ∙ ap (λ r. next_of_payload old (length (preface_due old.context) + 9 + (header_of is.nine).length) r) (payload_read old.context.role (header_of is.nine) is.payload frame is.is_payload)
-    ∙ ap (λ r. Reads frame r) (same_reading (behind_frame old frame (length (preface_due old.context) + 9 + (header_of is.nine).length)) new (sym g.context_is) left)
+    ∙ ap (λ r. NextFrame frame r) (same_reading (after_frame old frame (length (preface_due old.context) + 9 + (header_of is.nine).length)) new (sym g.context_is) left)
 
 -- ---- a frame that comes next stands first
 
@@ -85,17 +85,17 @@ record IsFound (old : Reading) (header : FrameHeader) (from : ℕ) : Type 0 wher
   payload_is : take header.length (drop from old.unread) ≡ payload
   rest_is : drop (from + header.length) old.unread ≡ rest
 
-found_judged : (old : Reading) (header : FrameHeader) (from : ℕ) (j : IsJudgedDue old.context old.unread (Whole header from))
-    → LetThrough (broken_header old.context (header_of j.nine)) (header_of j.nine) header (length (preface_due old.context)) (length j.behind) from → IsFound old header from
-found_judged old header from j t =
+found_by_header : (old : Reading) (header : FrameHeader) (from : ℕ) (j : HasHeaderDue old.context old.unread (Whole header from))
+    → LetThrough (broken_header old.context (header_of j.nine)) (header_of j.nine) header (length (preface_due old.context)) (length j.following) from → IsFound old header from
+found_by_header old header from j t =
     let len = (header_of j.nine).length in
-    let parts : j.behind ≡ take len j.behind ++ drop len j.behind = sym (take-append-drop len j.behind) in
-    let count : length (take len j.behind) ≡ len = length-take-le len j.behind t.there in
-    let whole : old.unread ≡ preface_due old.context ++ (j.nine ++ (take len j.behind ++ drop len j.behind)) = j.whole ∙ ap (λ o. preface_due old.context ++ (j.nine ++ o)) parts in
+    let parts : j.following ≡ take len j.following ++ drop len j.following = sym (take-append-drop len j.following) in
+    let count : length (take len j.following) ≡ len = length-take-le len j.following t.there in
+    let whole : old.unread ≡ preface_due old.context ++ (j.nine ++ (take len j.following ++ drop len j.following)) = j.whole ∙ ap (λ o. preface_due old.context ++ (j.nine ++ o)) parts in
     record {
       nine = j.nine;
-      payload = take len j.behind;
-      rest = drop len j.behind;
+      payload = take len j.following;
+      rest = drop len j.following;
       whole = whole;
       nine_len = j.nine_len;
       payload_len = count;
@@ -103,22 +103,22 @@ found_judged old header from j t =
       header_is = t.header_is;
       payload_is = ap (λ n. take n (drop from old.unread)) (ap (λ h. h.length) (sym t.header_is))
           ∙ ap (λ n. take len (drop n old.unread)) t.from_is
-          ∙ ap (λ o. take len o) (behind_header (preface_due old.context) j.nine j.behind old.unread j.whole j.nine_len);
+          ∙ ap (λ o. take len o) (after_header (preface_due old.context) j.nine j.following old.unread j.whole j.nine_len);
       rest_is = ap (λ n. drop (from + n) old.unread) (ap (λ h. h.length) (sym t.header_is))
           ∙ ap (λ n. drop (n + len) old.unread) t.from_is
           ∙ ap (λ n. drop (length (preface_due old.context) + 9 + n) old.unread) (sym count)
-          ∙ behind_payload (preface_due old.context) j.nine (take len j.behind) (drop len j.behind) old.unread whole j.nine_len;
+          ∙ after_payload (preface_due old.context) j.nine (take len j.following) (drop len j.following) old.unread whole j.nine_len;
     }
 
 found : (old : Reading) (header : FrameHeader) (from : ℕ) → front_of old.context old.unread ≡ Whole header from → IsFound old header from
 found old header from e =
     let j = front_whole old.context old.unread header from e in
-    found_judged old header from j (let_through (broken_header old.context (header_of j.nine)) (header_of j.nine) header (length (preface_due old.context)) (length j.behind) from j.judged)
+    found_by_header old header from j (let_through (broken_header old.context (header_of j.nine)) (header_of j.nine) header (length (preface_due old.context)) (length j.following) from j.front_is)
 
 -- the frame that was read
-found_gives : (old : Reading) (header : FrameHeader) (from : ℕ) (frame : Frame) → IsFound old header from
-    → frame_of old.context.role header (take header.length (drop from old.unread)) ≡ Ok frame → Gives old frame (behind_frame old frame (from + header.length))
-found_gives old header from frame is e = record {
+found_hands_out : (old : Reading) (header : FrameHeader) (from : ℕ) (frame : Frame) → IsFound old header from
+    → frame_of old.context.role header (take header.length (drop from old.unread)) ≡ Ok frame → HandsOut old frame (after_frame old frame (from + header.length))
+found_hands_out old header from frame is e = record {
   octets = is.nine ++ is.payload;
   whole = is.whole ∙ ap (λ o. preface_due old.context ++ o) (sym (append_assoc is.nine is.payload is.rest)) ∙ ap (λ r. preface_due old.context ++ ((is.nine ++ is.payload) ++ r)) (sym is.rest_is);
   is_frame = record {
@@ -134,55 +134,55 @@ found_gives old header from frame is e = record {
   context_is = refl;
 }
 
-same_read : (frame other : Frame) (one two : Reading) → Reads frame one ≡ Reads other two → (frame ≡ other) × (one ≡ two)
+same_read : (frame other : Frame) (one two : Reading) → NextFrame frame one ≡ NextFrame other two → (frame ≡ other) × (one ≡ two)
 same_read frame other one two e = (cc e, cc e)
 
-read_payload_gives : (old : Reading) (header : FrameHeader) (from : ℕ) (frame : Frame) (new : Reading) (reading : Result Frame FrameRule) → IsFound old header from
-    → frame_of old.context.role header (take header.length (drop from old.unread)) ≡ reading → next_of_payload old (from + header.length) reading ≡ Reads frame new → Gives old frame new
-read_payload_gives old header from frame new (Err rule) is r e = absurd (cc e)
-read_payload_gives old header from frame new (Ok other) is r e =
-    let same = same_read other frame (behind_frame old other (from + header.length)) new e in
-    subst (λ x. Gives old frame x) same.1 (subst (λ f. Gives old f (behind_frame old other (from + header.length))) same.0 (found_gives old header from other is r))
+read_payload_hands_out : (old : Reading) (header : FrameHeader) (from : ℕ) (frame : Frame) (new : Reading) (reading : Result Frame FrameRule) → IsFound old header from
+    → frame_of old.context.role header (take header.length (drop from old.unread)) ≡ reading → next_of_payload old (from + header.length) reading ≡ NextFrame frame new → HandsOut old frame new
+read_payload_hands_out old header from frame new (Err rule) is r e = absurd (cc e)
+read_payload_hands_out old header from frame new (Ok other) is r e =
+    let same = same_read other frame (after_frame old other (from + header.length)) new e in
+    subst (λ x. HandsOut old frame x) same.1 (subst (λ f. HandsOut old f (after_frame old other (from + header.length))) same.0 (found_hands_out old header from other is r))
 
-front_gives : (old : Reading) (frame : Frame) (new : Reading) (front : Front) → front_of old.context old.unread ≡ front → next_of_front old front ≡ Reads frame new → Gives old frame new
+front_gives : (old : Reading) (frame : Frame) (new : Reading) (front : Front) → front_of old.context old.unread ≡ front → next_of_front old front ≡ NextFrame frame new → HandsOut old frame new
 front_gives old frame new Unfinished f e = absurd (cc e)
 front_gives old frame new (Broken rule) f e = absurd (cc e)
 front_gives old frame new (Whole header from) f e =
-    read_payload_gives old header from frame new (frame_of old.context.role header (take header.length (drop from old.unread))) (found old header from f) refl e
+    read_payload_hands_out old header from frame new (frame_of old.context.role header (take header.length (drop from old.unread))) (found old header from f) refl e
 
-pub reads_gives : (old : Reading) (frame : Frame) (new : Reading) → next_of old ≡ Reads frame new → Gives old frame new
-reads_gives old frame new e = front_gives old frame new (front_of old.context old.unread) refl e
+pub next_hands_out : (old : Reading) (frame : Frame) (new : Reading) → next_of old ≡ NextFrame frame new → HandsOut old frame new
+next_hands_out old frame new e = front_gives old frame new (front_of old.context old.unread) refl e
 
 -- ---- a rule that is broken first comes next
 
-preface_fails : (old : Reading) → BreaksPreface old → next_of old ≡ Fails (code_of Preface)
+preface_fails : (old : Reading) → BreaksPreface old → next_of old ≡ NextFault (code_of Preface)
 preface_fails old b =
     let apart : (agrees (preface_due old.context) old.unread) ≡ false = not_true (agrees (preface_due old.context) old.unread) (differing (preface_due old.context) old.unread b.at b.stands b.due b.differs) in
-    ap (λ x. next_of_front old (if x then front_behind old.context (length (preface_due old.context)) (drop (length (preface_due old.context)) old.unread) else Broken Preface)) apart
+    ap (λ x. next_of_front old (if x then front_after_preface old.context (length (preface_due old.context)) (drop (length (preface_due old.context)) old.unread) else Broken Preface)) apart
   where
     not_true : (b : Bool) → (b ≡ true → ⊥) → b ≡ false
     not_true true n = absurd (n refl)
     not_true false n = refl
 
-header_fails : (old : Reading) (rule : FrameRule) → BreaksHeader old rule → next_of old ≡ Fails (code_of rule)
+header_fails : (old : Reading) (rule : FrameRule) → BreaksHeader old rule → next_of old ≡ NextFault (code_of rule)
 header_fails old rule b =
     ap (λ f. next_of_front old f)
-    (front_due old.context old.unread (b.nine ++ b.behind) b.whole
-    ∙ nine_judged old.context (length (preface_due old.context)) b.nine b.behind b.nine_len
-    ∙ ap (λ r. judged_front r (header_of b.nine) (length (preface_due old.context)) (length b.behind)) b.broken)
+    (front_due old.context old.unread (b.nine ++ b.following) b.whole
+    ∙ nine_front old.context (length (preface_due old.context)) b.nine b.following b.nine_len
+    ∙ ap (λ r. front_by_rule r (header_of b.nine) (length (preface_due old.context)) (length b.following)) b.broken)
 
-payload_fails : (old : Reading) (rule : FrameRule) → BreaksPayload old rule → next_of old ≡ Fails (code_of rule)
+payload_fails : (old : Reading) (rule : FrameRule) → BreaksPayload old rule → next_of old ≡ NextFault (code_of rule)
 payload_fails old rule b =
-    found_next old b.nine b.payload b.behind b.whole b.nine_len b.payload_len b.stands
+    found_next old b.nine b.payload b.following b.whole b.nine_len b.payload_len b.stands
     ∙ ap (λ r. next_of_payload old (length (preface_due old.context) + 9 + (header_of b.nine).length) r) (broken_read old.context.role (header_of b.nine) b.payload rule b.broken)
 
-pub breaks_fails : (old : Reading) (rule : FrameRule) → Breaks old rule → next_of old ≡ Fails (code_of rule)
-breaks_fails old rule (inl (preface, b)) = preface_fails old b ∙ ap (λ r. Fails (code_of r)) (sym preface)
+pub breaks_fails : (old : Reading) (rule : FrameRule) → Breaks old rule → next_of old ≡ NextFault (code_of rule)
+breaks_fails old rule (inl (preface, b)) = preface_fails old b ∙ ap (λ r. NextFault (code_of r)) (sym preface)
 breaks_fails old rule (inr (inl b)) = header_fails old rule b
 breaks_fails old rule (inr (inr b)) = payload_fails old rule b
 
-pub fault_fails : (old : Reading) (code : ℕ) → IsFault old code → next_of old ≡ Fails code
-fault_fails old code f = breaks_fails old f.rule f.breaks ∙ ap (λ n. Fails n) (sym f.code_is)
+pub fault_next : (old : Reading) (code : ℕ) → IsFault old code → next_of old ≡ NextFault code
+fault_next old code f = breaks_fails old f.rule f.breaks ∙ ap (λ n. NextFault n) (sym f.code_is)
 
 -- ---- a rule that comes next is broken
 
@@ -191,7 +191,7 @@ found_breaks : (old : Reading) (header : FrameHeader) (from : ℕ) (rule : Frame
 found_breaks old header from rule is e = record {
   nine = is.nine;
   payload = is.payload;
-  behind = is.rest;
+  following = is.rest;
   whole = is.whole;
   nine_len = is.nine_len;
   payload_len = is.payload_len;
@@ -200,36 +200,36 @@ found_breaks old header from rule is e = record {
       (ap (λ h. frame_of old.context.role h is.payload) is.header_is ∙ ap (λ o. frame_of old.context.role header o) (sym is.payload_is) ∙ e);
 }
 
-same_code : (code other : ℕ) → Fails code ≡ Fails other → other ≡ code
+same_code : (code other : ℕ) → NextFault code ≡ NextFault other → other ≡ code
 same_code code other e = cc e
 
 payload_fault : (old : Reading) (header : FrameHeader) (from code : ℕ) (reading : Result Frame FrameRule) → IsFound old header from
-    → frame_of old.context.role header (take header.length (drop from old.unread)) ≡ reading → next_of_payload old (from + header.length) reading ≡ Fails code → IsFault old code
+    → frame_of old.context.role header (take header.length (drop from old.unread)) ≡ reading → next_of_payload old (from + header.length) reading ≡ NextFault code → IsFault old code
 payload_fault old header from code (Ok frame) is r e = absurd (cc e)
 payload_fault old header from code (Err rule) is r e =
     record { rule = rule; breaks = inr (inr (found_breaks old header from rule is r)); code_is = same_code (code_of rule) code e }
 
-front_fault : (old : Reading) (code : ℕ) (front : Front) → front_of old.context old.unread ≡ front → next_of_front old front ≡ Fails code → IsFault old code
+front_fault : (old : Reading) (code : ℕ) (front : Front) → front_of old.context old.unread ≡ front → next_of_front old front ≡ NextFault code → IsFault old code
 front_fault old code Unfinished f e = absurd (cc e)
 front_fault old code (Broken rule) f e = record { rule = rule; breaks = front_broken old rule f; code_is = same_code (code_of rule) code e }
 front_fault old code (Whole header from) f e =
     payload_fault old header from code (frame_of old.context.role header (take header.length (drop from old.unread))) (found old header from f) refl e
 
-pub fails_fault : (old : Reading) (code : ℕ) → next_of old ≡ Fails code → IsFault old code
-fails_fault old code e = front_fault old code (front_of old.context old.unread) refl e
+pub next_fault : (old : Reading) (code : ℕ) → next_of old ≡ NextFault code → IsFault old code
+next_fault old code e = front_fault old code (front_of old.context old.unread) refl e
 
 -- ---- nothing comes next exactly where no frame and no broken rule stands first
 
-pub waits_unfinished : (old : Reading) → next_of old ≡ Waits → IsUnfinished old
-waits_unfinished old e = record {
-  no_frame = λ frame new g. let x = sym e ∙ gives_reads old frame new g in cc x;
+pub next_unfinished : (old : Reading) → next_of old ≡ NextUnfinished → IsUnfinished old
+next_unfinished old e = record {
+  no_frame = λ frame new g. let x = sym e ∙ hands_out_next old frame new g in cc x;
   no_rule = λ rule b. let x = sym e ∙ breaks_fails old rule b in cc x;
 }
 
-pub unfinished_waits : (old : Reading) → IsUnfinished old → next_of old ≡ Waits
-unfinished_waits old u = of (next_of old) refl
+pub unfinished_next : (old : Reading) → IsUnfinished old → next_of old ≡ NextUnfinished
+unfinished_next old u = of (next_of old) refl
   where
-    of : (next : Next) → next_of old ≡ next → next_of old ≡ Waits
-    of Waits e = e
-    of (Reads frame new) e = absurd (u.no_frame frame new (reads_gives old frame new e))
-    of (Fails code) e = let f = fails_fault old code e in absurd (u.no_rule f.rule f.breaks)
+    of : (next : Next) → next_of old ≡ next → next_of old ≡ NextUnfinished
+    of NextUnfinished e = e
+    of (NextFrame frame new) e = absurd (u.no_frame frame new (next_hands_out old frame new e))
+    of (NextFault code) e = let f = next_fault old code e in absurd (u.no_rule f.rule f.breaks)

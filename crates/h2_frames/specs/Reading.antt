@@ -23,27 +23,27 @@ pub record Reading : Type 0 where
 abbrev pub new_reading : Role → Reading
 new_reading role = record { context = new_context role; unread = [] }
 
--- the octets stand behind those that were fed before
+-- the octets stand after those that were fed before
 abbrev pub fed_with : List ℕ → Reading → Reading
 fed_with octets reading = record { context = reading.context; unread = reading.unread ++ octets }
 
--- what comes next: nothing yet, a frame, with what the reader holds behind it, or the end by an error code
+-- what comes next: nothing yet, a frame, with what the reader holds after it, or the end by an error code
 pub data Next : Type 0 where
-  Waits : Next
-  Reads : (frame : Frame) (new : Reading) → Next
-  Fails : (code : ℕ) → Next
+  NextUnfinished : Next
+  NextFrame : (frame : Frame) (new : Reading) → Next
+  NextFault : (code : ℕ) → Next
 
--- the reader behind a frame that ends with so many octets
-abbrev pub behind_frame : Reading → Frame → ℕ → Reading
-behind_frame old frame count = record { context = context_after old.context frame; unread = drop count old.unread }
+-- the reader after a frame that ends with so many octets
+abbrev pub after_frame : Reading → Frame → ℕ → Reading
+after_frame old frame count = record { context = context_after old.context frame; unread = drop count old.unread }
 
 abbrev pub next_of_payload : Reading → ℕ → Result Frame FrameRule → Next
-next_of_payload old count (Ok frame) = Reads frame (behind_frame old frame count)
-next_of_payload old count (Err rule) = Fails (code_of rule)
+next_of_payload old count (Ok frame) = NextFrame frame (after_frame old frame count)
+next_of_payload old count (Err rule) = NextFault (code_of rule)
 
 abbrev pub next_of_front : Reading → Front → Next
-next_of_front old Unfinished = Waits
-next_of_front old (Broken rule) = Fails (code_of rule)
+next_of_front old Unfinished = NextUnfinished
+next_of_front old (Broken rule) = NextFault (code_of rule)
 next_of_front old (Whole header from) =
     next_of_payload old (from + header.length) (frame_of old.context.role header (take header.length (drop from old.unread)))
 
@@ -55,23 +55,23 @@ next_of old = next_of_front old (front_of old.context old.unread)
 abbrev pub Answer : Type 0
 Answer = Poll (Result Frame FrameStop)
 
--- a fault tells the code; memory runs out only where something comes
+-- a fault reports the code; memory runs out only where something comes
 abbrev pub StopsWith : FrameStop → Next → Type 0
-StopsWith (Fault code) next = next ≡ Fails code
-StopsWith NoMemory next = next ≢ Waits
+StopsWith (Fault code) next = next ≡ NextFault code
+StopsWith NoMemory next = next ≢ NextUnfinished
 
 -- the answer is what comes next, unless memory ran out, and nothing changes where it is no frame
 abbrev pub Answers : Answer → Reading → Reading → Next → Type 0
-Answers (Ready (Ok frame)) old new next = next ≡ Reads frame new
+Answers (Ready (Ok frame)) old new next = next ≡ NextFrame frame new
 Answers (Ready (Err stop)) old new next = StopsWith stop next × (new ≡ old)
-Answers Pending old new next = (next ≡ Waits) × (new ≡ old)
+Answers Pending old new next = (next ≡ NextUnfinished) × (new ≡ old)
 
 -- the same for a payload that was read so
 abbrev pub Takes : Result Frame FrameStop → Reading → Reading → ℕ → Result Frame FrameRule → Type 0
 Takes answer old new count reading = Answers (Ready answer) old new (next_of_payload old count reading)
 
 -- where a payload stands, something comes
-pub payload_comes : (old : Reading) (count : ℕ) (reading : Result Frame FrameRule) → next_of_payload old count reading ≢ Waits
+pub payload_comes : (old : Reading) (count : ℕ) (reading : Result Frame FrameRule) → next_of_payload old count reading ≢ NextUnfinished
 payload_comes old count (Ok frame) e = cc e
 payload_comes old count (Err rule) e = cc e
 
@@ -98,9 +98,9 @@ IsNoMemory answer = answer ≡ Ready (Err NoMemory)
 abbrev pub IsPending : Answer → Type 0
 IsPending answer = answer ≡ Pending
 
--- the frame was given, and the reader is the one behind it, unless memory ran out
-abbrev pub IsGiven : Frame → Reading → Answer → Reading → Type 0
-IsGiven frame behind (Ready (Ok given)) new = (given ≡ frame) × (new ≡ behind)
-IsGiven frame behind (Ready (Err (Fault code))) new = ⊥
-IsGiven frame behind (Ready (Err NoMemory)) new = Unit {0}
-IsGiven frame behind Pending new = ⊥
+-- the frame was given, and the reader is the one after it, unless memory ran out
+abbrev pub IsHandedOut : Frame → Reading → Answer → Reading → Type 0
+IsHandedOut frame following (Ready (Ok given)) new = (given ≡ frame) × (new ≡ following)
+IsHandedOut frame following (Ready (Err (Fault code))) new = ⊥
+IsHandedOut frame following (Ready (Err NoMemory)) new = Unit {0}
+IsHandedOut frame following Pending new = ⊥

@@ -11,9 +11,9 @@ use Rattle.h2_layouts.specs.Rules.{broken_header, broken_payload, code_of}
 use Rattle.h2_frames.specs.Prefaces.{preface_due}
 use Rattle.h2_frames.specs.Reading.{Reading, new_reading, fed_with}
 
--- a frame stands first, behind the preface where that is due; its header breaks no rule where it stands, and neither
--- does its payload; what is behind it is left
-pub record Gives (old : Reading) (frame : Frame) (new : Reading) : Type 0 where
+-- a frame stands first, after the preface where that is due; its header breaks no rule where it stands, and neither
+-- does its payload; what is after it is left
+pub record HandsOut (old : Reading) (frame : Frame) (new : Reading) : Type 0 where
   pub octets : List ℕ
   pub whole : old.unread ≡ preface_due old.context ++ (octets ++ new.unread)
   pub is_frame : IsFrame old.context.role octets frame
@@ -27,21 +27,21 @@ pub record BreaksPreface (old : Reading) : Type 0 where
   pub due : at < length (preface_due old.context)
   pub differs : slice_index (preface_due old.context) at ≢ slice_index old.unread at
 
--- nine octets of a header stand first, behind the preface where that is due, and this is the first rule that they break
+-- nine octets of a header stand first, after the preface where that is due, and this is the first rule that they break
 pub record BreaksHeader (old : Reading) (rule : FrameRule) : Type 0 where
   pub nine : List ℕ
-  pub behind : List ℕ
-  pub whole : old.unread ≡ preface_due old.context ++ (nine ++ behind)
+  pub following : List ℕ
+  pub whole : old.unread ≡ preface_due old.context ++ (nine ++ following)
   pub nine_len : length nine ≡ 9
   pub broken : broken_header old.context (header_of nine) ≡ Some rule
 
--- a whole frame stands first, behind the preface where that is due; its header breaks no rule, and this is the first that
+-- a whole frame stands first, after the preface where that is due; its header breaks no rule, and this is the first that
 -- its payload breaks
 pub record BreaksPayload (old : Reading) (rule : FrameRule) : Type 0 where
   pub nine : List ℕ
   pub payload : List ℕ
-  pub behind : List ℕ
-  pub whole : old.unread ≡ preface_due old.context ++ (nine ++ (payload ++ behind))
+  pub following : List ℕ
+  pub whole : old.unread ≡ preface_due old.context ++ (nine ++ (payload ++ following))
   pub nine_len : length nine ≡ 9
   pub payload_len : length payload ≡ (header_of nine).length
   pub stands : broken_header old.context (header_of nine) ≡ None
@@ -59,10 +59,10 @@ pub record IsFault (old : Reading) (code : ℕ) : Type 0 where
 
 -- the octets begin no whole frame and break no rule
 pub record IsUnfinished (old : Reading) : Type 0 where
-  pub no_frame : (frame : Frame) (new : Reading) → Gives old frame new → ⊥
+  pub no_frame : (frame : Frame) (new : Reading) → HandsOut old frame new → ⊥
   pub no_rule : (rule : FrameRule) → Breaks old rule → ⊥
 
--- how the octets of a connection go on behind its frames: less than a frame, or a rule that is broken
+-- how the octets of a connection go on after its frames: less than a frame, or a rule that is broken
 pub data End : Type 0 where
   Unfinished : End
   Fault : (code : ℕ) → End
@@ -71,14 +71,14 @@ abbrev pub Ends : Reading → End → Type 0
 Ends old Unfinished = IsUnfinished old
 Ends old (Fault code) = IsFault old code
 
--- these frames stand first, one behind another, and then the reader is this one
+-- these frames stand first, one after another, and then the reader is this one
 abbrev pub AreFrames : Reading → List Frame → Reading → Type 0
 AreFrames old [] new = old ≡ new
-AreFrames old (frame ∷ frames) new = (between : Reading) × Gives old frame between × AreFrames between frames new
+AreFrames old (frame ∷ frames) new = (between : Reading) × HandsOut old frame between × AreFrames between frames new
 
 -- the octets that a connection begins with are these frames and no others: then comes a broken rule, or less than a frame
 pub record IsStream (role : Role) (octets : List ℕ) (frames : List Frame) (rest : Reading) (end : End) : Type 0 where
-  pub given : AreFrames (fed_with octets (new_reading role)) frames rest
+  pub are : AreFrames (fed_with octets (new_reading role)) frames rest
   pub ends : Ends rest end
 
 -- there are such frames

@@ -14,20 +14,20 @@ use Rattle.h2_layouts.specs.WrittenLaws.{header_written, payload_written}
 use Rattle.h2_frames.specs.Calls.{Call, IsRun, octets_fed, frames_given}
 use Rattle.h2_frames.specs.CallLaws.{frames_of_run}
 use Rattle.h2_frames.specs.declared.front.Front.TheVariants as front
-use Rattle.h2_frames.specs.Front.{front_behind}
-use Rattle.h2_frames.specs.NextLaws.{waits_unfinished}
+use Rattle.h2_frames.specs.Front.{front_after_preface}
+use Rattle.h2_frames.specs.NextLaws.{next_unfinished}
 use Rattle.h2_frames.specs.Prefaces.{preface, agrees, is_server, preface_due}
 use Rattle.h2_frames.specs.Reading.{Reading, new_reading, fed_with, next_of, next_of_front}
-use Rattle.h2_frames.specs.Reading.Next.{Waits}
-use Rattle.h2_frames.specs.Streams.{Gives, AreFrames, End, Ends}
+use Rattle.h2_frames.specs.Reading.Next.{NextUnfinished}
+use Rattle.h2_frames.specs.Streams.{HandsOut, AreFrames, End, Ends}
 use Rattle.h2_frames.specs.Streams.End.{Unfinished}
 use Rattle.h2_frames.specs.StreamLaws.{one_stream}
-use Rattle.h2_frames.specs.WrittenFrames.{octets_at, context_behind, AreWritable}
+use Rattle.h2_frames.specs.WrittenFrames.{octets_at, context_after_all, AreWritable}
 
 -- a frame that was written stands there, whatever follows
-pub written_gives : (context : FrameContext) (frame : Frame) (more : List ℕ) → IsWritable frame → broken_header context (header_for frame) ≡ None
-    → Gives (record { context = context; unread = preface_due context ++ (octets_of frame ++ more) }) frame (record { context = context_after context frame; unread = more })
-written_gives context frame more w stands = record {
+pub written_hands_out : (context : FrameContext) (frame : Frame) (more : List ℕ) → IsWritable frame → broken_header context (header_for frame) ≡ None
+    → HandsOut (record { context = context; unread = preface_due context ++ (octets_of frame ++ more) }) frame (record { context = context_after context frame; unread = more })
+written_hands_out context frame more w stands = record {
   octets = octets_of frame;
   whole = refl;
   is_frame = record {
@@ -44,27 +44,27 @@ written_gives context frame more w stands = record {
 
 -- and so do many
 written_frames : (frames : List Frame) (context : FrameContext) (more : List ℕ) → AreWritable context frames
-    → AreFrames (record { context = context; unread = octets_at context frames ++ more }) frames (record { context = context_behind context frames; unread = more })
+    → AreFrames (record { context = context; unread = octets_at context frames ++ more }) frames (record { context = context_after_all context frames; unread = more })
 written_frames [] context more w = refl
 written_frames (frame ∷ frames) context more (w, stands, others) =
     let rest = octets_at (context_after context frame) frames in
     let whole : octets_at context (frame ∷ frames) ++ more ≡ preface_due context ++ (octets_of frame ++ (rest ++ more))
     = append_assoc (preface_due context) (octets_of frame ++ rest) more ∙ ap (λ o. preface_due context ++ o) (append_assoc (octets_of frame) rest more) in (
       record { context = context_after context frame; unread = rest ++ more },
-      subst (λ o. Gives (record { context = context; unread = o }) frame (record { context = context_after context frame; unread = rest ++ more })) (sym whole) (written_gives context frame (rest ++ more) w stands),
+      subst (λ o. HandsOut (record { context = context; unread = o }) frame (record { context = context_after context frame; unread = rest ++ more })) (sym whole) (written_hands_out context frame (rest ++ more) w stands),
       written_frames frames (context_after context frame) more others,
     )
 
 pub written_are_frames : (context : FrameContext) (frames : List Frame) (more : List ℕ) → AreWritable context frames
-    → AreFrames (record { context = context; unread = octets_at context frames ++ more }) frames (record { context = context_behind context frames; unread = more })
+    → AreFrames (record { context = context; unread = octets_at context frames ++ more }) frames (record { context = context_after_all context frames; unread = more })
 written_are_frames context frames more w = written_frames frames context more w
 
 -- no octet begins nothing
-empty_waits : (context : FrameContext) → next_of (record { context = context; unread = [] }) ≡ Waits
-empty_waits context = of (context.first && is_server context.role)
+empty_unfinished : (context : FrameContext) → next_of (record { context = context; unread = [] }) ≡ NextUnfinished
+empty_unfinished context = of (context.first && is_server context.role)
   where
     of : (due : Bool) → next_of_front (record { context = context; unread = [] })
-        (if agrees (if due then preface else []) [] then front_behind context (length (if due then preface else [])) (drop (length (if due then preface else [])) []) else front.Broken Preface) ≡ Waits
+        (if agrees (if due then preface else []) [] then front_after_preface context (length (if due then preface else [])) (drop (length (if due then preface else [])) []) else front.Broken Preface) ≡ NextUnfinished
     of true = refl
     of false = refl
 
@@ -72,9 +72,9 @@ empty_waits context = of (context.first && is_server context.role)
 pub written_any_cutting : (role : Role) (frames : List Frame) (calls : List Call) (new : Reading) (end : End) → AreWritable (new_context role) frames
     → IsRun (new_reading role) calls new → Ends new end → octets_fed calls ≡ octets_at (new_context role) frames → (frames_given calls ≡ frames) × (end ≡ Unfinished)
 written_any_cutting role frames calls new end w run ends same =
-    let all = one_stream (frames_given calls) (fed_with (octets_at (new_context role) frames) (new_reading role)) frames new (record { context = context_behind (new_context role) frames; unread = [] }) end Unfinished
+    let all = one_stream (frames_given calls) (fed_with (octets_at (new_context role) frames) (new_reading role)) frames new (record { context = context_after_all (new_context role) frames; unread = [] }) end Unfinished
     (subst (λ o. AreFrames (fed_with o (new_reading role)) (frames_given calls) new) same (frames_of_run calls (new_reading role) new run)) ends
-    (subst (λ o. AreFrames (record { context = new_context role; unread = o }) frames (record { context = context_behind (new_context role) frames; unread = [] }))
+    (subst (λ o. AreFrames (record { context = new_context role; unread = o }) frames (record { context = context_after_all (new_context role) frames; unread = [] }))
     (append-nil (octets_at (new_context role) frames)) (written_frames frames (new_context role) [] w))
-    (waits_unfinished (record { context = context_behind (new_context role) frames; unread = [] }) (empty_waits (context_behind (new_context role) frames))) in
+    (next_unfinished (record { context = context_after_all (new_context role) frames; unread = [] }) (empty_unfinished (context_after_all (new_context role) frames))) in
     (all.0, all.2)

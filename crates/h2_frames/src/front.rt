@@ -1,6 +1,7 @@
 //! What stands first in the octets of a connection.
 ghost use Rattle.std.specs.Prelude.{◌≡◌, ◌+◌, ◌≤◌, length};
-ghost use Rattle.h2_frames.specs.Front.{front_of, front_behind as front_there, EndsWithin};
+ghost use Rattle.h2_frames.specs.declared.preface.TheConstants.{PREFACE_OCTETS};
+ghost use Rattle.h2_frames.specs.Front.{front_of, front_after_preface as front_there, EndsWithin};
 
 use crate::preface::{agrees, preface_due};
 use h2_layouts::header::HEADER_OCTETS;
@@ -22,7 +23,7 @@ pub(crate) enum Front {
     Unfinished,
 }
 
-/// Judges what stands first in octets: the preface, where it is due, as far as it stands, then a header
+/// What stands first in octets: the preface, where it is due, as far as it stands, then a header
 /// as soon as its nine octets stand.
 pub(crate) fn front_of(context: FrameContext, octets: &[u8]) -> Front
     ensures exact { result ≡ front_of context octets.now }
@@ -35,23 +36,23 @@ pub(crate) fn front_of(context: FrameContext, octets: &[u8]) -> Front
     if octets.len() < due.len() {
         return Front::Unfinished;
     }
-    front_behind(context, due.len(), &octets[due.len()..])
+    front_after_preface(context, due.len(), &octets[due.len()..])
 }
 
-/// The same behind the preface, before which so many octets stand.
-fn front_behind(context: FrameContext, before: usize, octets: &[u8]) -> Front
-    requires { before ≤ 24 }
+/// The same after the preface, before which so many octets stand.
+fn front_after_preface(context: FrameContext, before: usize, octets: &[u8]) -> Front
+    requires { before ≤ PREFACE_OCTETS }
     ensures exact { result ≡ front_there context before octets.now }
     ensures within { EndsWithin result (before + length octets.now) }
 {
-    let [a, b, c, number, flags, s, t, u, v, behind @ ..] = octets else {
+    let [a, b, c, number, flags, s, t, u, v, following @ ..] = octets else {
         return Front::Unfinished;
     };
     let header = FrameHeader::of([*a, *b, *c, *number, *flags, *s, *t, *u, *v]);
     if let Some(rule) = context.broken_rule(header) {
         return Front::Broken(rule);
     }
-    if behind.len() < header.length as usize {
+    if following.len() < header.length as usize {
         return Front::Unfinished;
     }
     Front::Whole {

@@ -9,9 +9,9 @@ ghost use Rattle.h2_frames.specs.Reading.{Reading, new_reading, fed_with};
 ghost use Rattle.h2_frames.specs.Streams.{End, Ends, AreFrames, IsStream, HasStream};
 ghost use Rattle.h2_frames.specs.Streams.End.{Unfinished};
 ghost use Rattle.h2_frames.specs.StreamLaws.{AreSame};
-ghost use Rattle.h2_frames.specs.WrittenFrames.{AreWritable, octets_at, context_behind};
+ghost use Rattle.h2_frames.specs.WrittenFrames.{AreWritable, octets_at, context_after_all};
 
-/// Octets have exactly one reading as frames: its frames, and how it goes on behind them.
+/// Octets have exactly one reading as frames: its frames, and how it goes on after them.
 #[tactic(auto, using(crate::specs::StreamLaws::each_has_stream, crate::specs::StreamLaws::same_stream))]
 pub fn one_stream_law()
     ensures some { (role : Role) (octets : List ℕ) → HasStream role octets }
@@ -33,7 +33,7 @@ pub fn reader_law()
 {}
 
 /// The frames do not depend on the pieces in which the octets were fed, nor on when the reader was asked
-/// for a frame: after any two lists of calls of a new reader that fed the same octets, joined, and behind
+/// for a frame: after any two lists of calls of a new reader that fed the same octets, joined, and after
 /// which Pending or a fault is due, the same frames were given, and the same is due.
 pub fn any_cutting_law()
     ensures { (role : Role) (calls others : List Call) (new found : Reading) (end last : End)
@@ -50,14 +50,14 @@ pub fn fault_law()
         → Ends old end → end ≢ Unfinished → IsRun old calls new → StaysFaulty calls new end }
 {}
 
-/// Frames that were written one behind another, each where it may stand, are read as those frames,
+/// Frames that were written one after another, each where it may stand, are read as those frames,
 /// whatever follows, and in whatever pieces they come.
 #[tactic(auto, using(crate::specs::WrittenLaws::written_are_frames, crate::specs::WrittenLaws::written_any_cutting))]
 pub fn written_law()
     ensures frames { (context : FrameContext) (frames : List Frame) (more : List ℕ)
         → AreWritable context frames
         → AreFrames (record { context = context; unread = octets_at context frames ++ more }) frames
-        (record { context = context_behind context frames; unread = more }) }
+        (record { context = context_after_all context frames; unread = more }) }
     ensures cut { (role : Role) (frames : List Frame) (calls : List Call) (new : Reading) (end : End)
         → AreWritable (new_context role) frames
         → IsRun (new_reading role) calls new → Ends new end

@@ -5,7 +5,6 @@ mod front;
 mod laws;
 mod preface;
 mod reader;
-mod unread;
 
 pub use h2_layouts::{Frame, Role, Setting, frame_len, is_writable, write_frame};
 pub use laws::{any_cutting_law, fault_law, one_stream_law, reader_law, written_law};

@@ -4,8 +4,13 @@ ghost use Rattle.h2_frames.specs.Prefaces.{agrees as agree, preface_due};
 
 use h2_layouts::{FrameContext, Role};
 
+/// How many octets the preface has.
+const PREFACE_OCTETS: usize = 24;
+
+const _: () = prove!(PREFACE_OCTETS == 24);
+
 /// What a server reads before the first frame: `PRI * HTTP/2.0`, two line ends, `SM`, two line ends.
-const PREFACE: [u8; 24] = *b"PRI * HTTP/2.0\r\n\r\nSM\r\n\r\n";
+const PREFACE: [u8; PREFACE_OCTETS] = *b"PRI * HTTP/2.0\r\n\r\nSM\r\n\r\n";
 
 /// The preface, where it stands before the next frame, else nothing.
 pub(crate) fn preface_due(context: FrameContext) -> &'static [u8]

@@ -1,13 +1,12 @@
 //! The frames of a connection, whose octets arrive in pieces.
-ghost use Rattle.std.specs.Prelude.{◌≡◌, ◌↔◌, ◌⊎◌, ◌+◌, ◌≤◌, ℕ, [], length, take, drop, IfOk, OnOk, OnErr};
+ghost use Rattle.std.specs.Prelude.{◌≡◌, ◌↔◌, ◌⊎◌, ◌+◌, ◌≤◌, ℕ, length, take, drop, IfOk, OnOk, OnErr};
 ghost use Rattle.h2_layouts.specs.PayloadReading.{frame_of};
 ghost use Rattle.h2_layouts.specs.declared.frame.Frame.{Frame as AnyFrame};
-ghost use Rattle.h2_frames.specs.Reading.{Reading, new_reading, fed_with, next_of, Answers, Takes, IfFrame, OnNoFrame, IsFaultWith, IsNoMemory, IsPending, IsGiven};
-ghost use Rattle.h2_frames.specs.Streams.{Gives, IsFault, IsUnfinished};
+ghost use Rattle.h2_frames.specs.Reading.{Reading, new_reading, fed_with, next_of, Answers, Takes, IfFrame, OnNoFrame, IsFaultWith, IsNoMemory, IsPending, IsHandedOut};
+ghost use Rattle.h2_frames.specs.Streams.{HandsOut, IsFault, IsUnfinished};
 
 use crate::front::{Front, front_of};
-use crate::unread::Unread;
-use esi_base::{NoMemory, Poll};
+use esi_base::{NoMemory, OctetQueue, Poll};
 use h2_layouts::{Frame, FrameContext, FrameHeader, PayloadStop, Role, read_payload};
 use std::alloc::Global;
 use std::marker::Model;
@@ -20,7 +19,7 @@ pub enum FrameStop {
         /// The error code.
         code: u32,
     },
-    /// Memory could not be had.
+    /// Out of memory.
     NoMemory,
 }
 
@@ -30,7 +29,7 @@ pub enum FrameStop {
 pub struct FrameReader {
     alloc: Global,
     context: FrameContext,
-    unread: Unread,
+    unread: OctetQueue,
 }
 
 impl Model for FrameReader {
@@ -49,33 +48,31 @@ impl FrameReader {
         Ok(FrameReader {
             alloc,
             context: FrameContext::new(role),
-            unread: Unread::new(alloc),
+            unread: OctetQueue::new(alloc),
         })
     }
 
-    /// Takes the next octets of the connection. For want of memory, and for no other cause, it fails,
-    /// and the reader is as before. The time that all calls take is linear in the octets, whatever the
-    /// pieces.
+    /// Takes the next octets of the connection. It fails only when it runs out of memory, and then the
+    /// reader is as before. The time that all calls take is linear in the octets, whatever the pieces.
     pub fn feed(&mut self, octets: &[u8]) -> Result<(), NoMemory>
         ensures fed { OnOk result (self.new ≡ fed_with octets.now self.old) }
         ensures unchanged { OnErr result (self.new ≡ self.old) }
     {
-        self.unread.push_all(octets)?;
-        Ok(())
+        self.unread.push_all(octets)
     }
 
     /// The next frame of the connection, without padding and priority. The rules of a frame's header
-    /// are judged as soon as its nine octets stand, those of its payload when it stands whole; the first
-    /// that is broken is told by its code, and each later call tells it again. Pending comes exactly
-    /// where the octets that were fed begin no whole frame and break no rule. For want of memory the
-    /// frame stays, and the next call gives it.
+    /// are checked as soon as its nine octets stand, those of its payload when it stands whole; the first
+    /// that is broken is reported by its code, and each later call reports it again. Pending comes
+    /// exactly where the octets that were fed begin no whole frame and break no rule. When memory runs
+    /// out the frame stays, and the next call gives it.
     pub fn poll_frame(&mut self) -> Poll<Result<Frame, FrameStop>>
-        // It gives exactly the frame that stands first, and what is behind it is left.
-        ensures frame { IfFrame result (λ frame. Gives self.old frame self.new) }
-        ensures frame_only { (frame : AnyFrame) (behind : Reading) → Gives self.old frame behind
-            → IsGiven frame behind result self.new }
+        // It gives exactly the frame that stands first, and what is after it is left.
+        ensures frame { IfFrame result (λ frame. HandsOut self.old frame self.new) }
+        ensures frame_only { (frame : AnyFrame) (following : Reading) → HandsOut self.old frame following
+            → IsHandedOut frame following result self.new }
 
-        // It tells exactly the code of the first rule that is broken.
+        // It reports exactly the code of the first rule that is broken.
         ensures fault { (code : ℕ) → IsFaultWith code result → IsFault self.old code }
         ensures fault_only { (code : ℕ) → IsFault self.old code
             → IsFaultWith code result ⊎ IsNoMemory result }
@@ -100,7 +97,7 @@ impl FrameReader {
         }
     }
 
-    /// Takes the frame that stands first, whole, with this header and behind so many octets.
+    /// Takes the frame that stands first, whole, with this header and after so many octets.
     #[tactic(auto, using(crate::specs::Reading::payload_comes))]
     fn take_frame(&mut self, header: FrameHeader, from: usize) -> Result<Frame, FrameStop>
         requires { from + header.length ≤ length self.old.unread }
@@ -108,14 +105,19 @@ impl FrameReader {
             (frame_of self.old.context.role header (take header.length (drop from self.old.unread))) }
     {
         let count = header.length as usize;
-        let behind = &self.unread.as_slice()[from..];
-        match read_payload(self.alloc, self.context.role, header, &behind[..count]) {
+        let after_header = &self.unread.as_slice()[from..];
+        match read_payload(
+            self.alloc,
+            self.context.role,
+            header,
+            &after_header[..count],
+        ) {
             Ok(frame) => {
                 self.context = self.context.after(&frame);
                 self.unread.skip(from + count);
                 Ok(frame)
             }
-            Err(PayloadStop::Broken(rule)) => Err(FrameStop::Fault { code: rule.code() }),
+            Err(PayloadStop::Refused(rule)) => Err(FrameStop::Fault { code: rule.code() }),
             Err(PayloadStop::NoMemory) => Err(FrameStop::NoMemory),
         }
     }

@@ -42,10 +42,10 @@ pub settings_octets_len : (pairs : List Setting) → length (flat_map setting_oc
 settings_octets_len [] = refl
 settings_octets_len (setting ∷ pairs) = let h = settings_octets_len pairs in omega arith
 
--- the header and the first settings are written, up to a place
+-- the header and the first settings are written, up to an offset
 pub record IsWritten (pairs : List Setting) (out : List ℕ) (at count : ℕ) : Type 0 where
   pub room : length out ≡ 9 + 6 * length pairs
-  pub place : at ≡ 9 + 6 * count
+  pub offset : at ≡ 9 + 6 * count
   pub front : take at out ≡ header_octets (header_for (Settings pairs)) ++ flat_map setting_octets (take count pairs)
 
 -- nothing but the header
@@ -56,7 +56,7 @@ written_none pairs len old out l o e =
     let whole : length out ≡ 9 + length (drop 9 old) = ap length e ∙ omega arith in
     record {
       room = omega (arith, length-drop 9 old);
-      place = refl;
+      offset = refl;
       front = ap (λ x. take 9 x) e
           ∙ take_at (header_octets (record { length = len; kind = types.Settings; flags = 0; stream = 0 })) (drop 9 old) 9 refl
           ∙ ap (λ n. header_octets (record { length = n; kind = types.Settings; flags = 0; stream = 0 })) l;
@@ -66,8 +66,8 @@ written_none pairs len old out l o e =
 put_len : (at k : ℕ) (out piece : List ℕ) → length piece ≡ k → at + k ≤ length out → length (put_mid at k out piece) ≡ length out
 put_len at k out piece e h =
     let front = take-put_mid at k out piece (at + k) (omega arith) (omega arith) in
-    let behind = drop-put_mid at k out piece (at + k) (omega arith) (omega arith) e in
-    let whole = ap length (sym (take-append-drop (at + k) (put_mid at k out piece)) ∙ ap (λ o. o ++ drop (at + k) (put_mid at k out piece)) front ∙ ap (λ o. (take at out ++ piece) ++ o) behind) in
+    let following = drop-put_mid at k out piece (at + k) (omega arith) (omega arith) e in
+    let whole = ap length (sym (take-append-drop (at + k) (put_mid at k out piece)) ∙ ap (λ o. o ++ drop (at + k) (put_mid at k out piece)) front ∙ ap (λ o. (take at out ++ piece) ++ o) following) in
     omega (arith, whole, length-append (take at out ++ piece) (drop (at + k) out), length-append (take at out) piece, length-take-le at out (omega arith), length-drop (at + k) out)
 
 -- one setting more
@@ -75,11 +75,11 @@ pub written_more : (pairs : List Setting) (out piece : List ℕ) (at count : ℕ
     → piece ≡ setting_octets (get_or pairs count default) → IsWritten pairs (put_mid at (at + 6 - at) out piece) (at + 6) (count + 1)
 written_more pairs out piece at count default w h e =
     let room = w.room in
-    let place = w.place in
+    let offset = w.offset in
     let six : length piece ≡ at + 6 - at = ap length e ∙ omega arith in
     record {
       room = put_len at (at + 6 - at) out piece six (omega arith) ∙ w.room;
-      place = omega arith;
+      offset = omega arith;
       front = take-put_mid at (at + 6 - at) out piece (at + 6) (omega arith) (omega arith)
           ∙ ap (λ o. o ++ piece) w.front
           ∙ append_assoc (header_octets (header_for (Settings pairs))) (flat_map setting_octets (take count pairs)) piece
@@ -93,5 +93,5 @@ written_more pairs out piece at count default w h e =
 pub written_all : (pairs : List Setting) (out : List ℕ) (at count : ℕ) → IsWritten pairs out at count → length pairs ≤ count → count ≤ length pairs → out ≡ octets_of (Settings pairs)
 written_all pairs out at count w h g =
     let room = w.room in
-    let place = w.place in
+    let offset = w.offset in
     sym (take_all at out (omega arith)) ∙ w.front ∙ ap (λ x. header_octets (header_for (Settings pairs)) ++ flat_map setting_octets x) (take_all count pairs h)

@@ -9,7 +9,7 @@ use Rattle.h2_layouts.specs.declared.role.Role.{Role}
 abbrev pub new_context : Role → FrameContext
 new_context role = record { role = role; first = true; block = None }
 
--- the stream of a header block that is not whole behind the frame
+-- the stream of a header block that is not whole after the frame
 abbrev pub block_after : Frame → Option ℕ
 block_after (Head stream end false octets) = Some stream
 block_after (Continued stream false octets) = Some stream

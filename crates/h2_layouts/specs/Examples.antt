@@ -51,7 +51,7 @@ padded = refl
 overpadded : broken_payload Server (record { length = 3; kind = types.Data; flags = 8; stream = 1 }) (3 ∷ 170 ∷ 187 ∷ []) ≡ Some rules.DataPadding
 overpadded = refl
 
--- a server sends no ENABLE_PUSH 1, a client may; and the rules of values are judged rule by rule
+-- a server sends no ENABLE_PUSH 1, a client may; and the rules of values are checked rule by rule
 push : broken_payload Client (record { length = 6; kind = types.Settings; flags = 0; stream = 0 }) (0 ∷ 2 ∷ 0 ∷ 0 ∷ 0 ∷ 1 ∷ []) ≡ Some rules.EnablePush
 push = refl
 

@@ -15,8 +15,8 @@ use Rattle.h2_layouts.specs.declared.rule.FrameRule.TheVariants as rules
 use Rattle.h2_layouts.specs.declared.setting.Setting.{Setting}
 use Rattle.h2_layouts.specs.Numbers.{u32_of, u31_of, has}
 use Rattle.h2_layouts.specs.Rules.{settings_of, broken_payload}
-use Rattle.h2_layouts.specs.Reading.{◌>>=◌}
-use Rattle.h2_layouts.specs.PayloadReading.{stream_of, on_connection, before_padding, padded_data, data_octets, data_of, behind_priority, padded_headers, headers_octets, headers_of, priority_of, code_at, rst_stream_of, acknowledged, broken_setting, unless_broken, settings_at, settings_frame_of, eight_octets, ping_of, goaway_at, goaway_of, increment_at, window_update_of, frame_by, frame_of}
+use Rattle.esi_base.specs.Answers.{◌>>=◌}
+use Rattle.h2_layouts.specs.PayloadReading.{stream_of, on_connection, before_padding, padded_data, data_octets, data_of, after_priority, padded_headers, headers_octets, headers_of, priority_of, code_at, rst_stream_of, acknowledged, broken_setting, unless_broken, settings_at, settings_frame_of, eight_octets, ping_of, goaway_at, goaway_of, increment_at, window_update_of, frame_by, frame_of}
 use Rattle.h2_layouts.specs.Layouts.{IsPadded, IsData, IsHeaders, IsPriority, IsRstStream, IsSetting, AreSettings, IsSettings, IsSettingsAck, IsPing, IsGoAway, IsWindowUpdate, HasLayout, IsPayload}
 use Rattle.h2_layouts.specs.RuleLaws.{rule_of, frame_rule}
 
@@ -120,36 +120,36 @@ priority_again true priority content h =
     ap (λ b. if b then Err rules.HeadersLength else Ok (drop 5 (priority ++ content))) enough
     ∙ ap (λ o. Ok o) (drop_at priority content 5 h)
 
-padded_headers_layout : (b : Bool) (flags : ℕ) (payload content : List ℕ) → (if b then padded_headers flags payload else behind_priority flags payload) ≡ done content
+padded_headers_layout : (b : Bool) (flags : ℕ) (payload content : List ℕ) → (if b then padded_headers flags payload else after_priority flags payload) ≡ done content
     → (priority : List ℕ) × (length priority ≡ (if has flags PRIORITY then 5 else 0)) × IsPadded b payload (priority ++ content)
 unfolding padded_headers
 padded_headers_layout false flags payload content e = priority_layout (has flags PRIORITY) payload content e
 padded_headers_layout true flags [] content e = absurd (cc e)
-padded_headers_layout true flags (pad ∷ octets) content e = of (bind_ok (behind_priority flags octets) (λ behind. before_padding rules.HeadersPadding pad behind) content e)
+padded_headers_layout true flags (pad ∷ octets) content e = of (bind_ok (after_priority flags octets) (λ following. before_padding rules.HeadersPadding pad following) content e)
   where
-    joined : (behind padding priority : List ℕ) → length padding ≡ pad → behind ≡ content ++ padding → length priority ≡ (if has flags PRIORITY then 5 else 0) → octets ≡ priority ++ behind
+    joined : (following padding priority : List ℕ) → length padding ≡ pad → following ≡ content ++ padding → length priority ≡ (if has flags PRIORITY then 5 else 0) → octets ≡ priority ++ following
         → (priority : List ℕ) × (length priority ≡ (if has flags PRIORITY then 5 else 0)) × IsPadded true (pad ∷ octets) (priority ++ content)
-    joined behind padding priority count whole five octets_are = (
+    joined following padding priority count whole five octets_are = (
       priority,
       five,
       (padding, ap (λ n. n ∷ octets) (sym count) ∙ ap (λ o. length padding ∷ o) (octets_are ∙ ap (λ o. priority ++ o) whole ∙ sym (append_assoc priority content padding))),
     )
 
-    parts : (behind : List ℕ) → ((padding : List ℕ) × (length padding ≡ pad) × (behind ≡ content ++ padding)) → ((priority : List ℕ) × (length priority ≡ (if has flags PRIORITY then 5 else 0)) × (octets ≡ priority ++ behind))
+    parts : (following : List ℕ) → ((padding : List ℕ) × (length padding ≡ pad) × (following ≡ content ++ padding)) → ((priority : List ℕ) × (length priority ≡ (if has flags PRIORITY then 5 else 0)) × (octets ≡ priority ++ following))
         → (priority : List ℕ) × (length priority ≡ (if has flags PRIORITY then 5 else 0)) × IsPadded true (pad ∷ octets) (priority ++ content)
-    parts behind (padding, count, whole) (priority, five, octets_are) = joined behind padding priority count whole five octets_are
+    parts following (padding, count, whole) (priority, five, octets_are) = joined following padding priority count whole five octets_are
 
-    of : ((behind : List ℕ) × (behind_priority flags octets ≡ Ok behind) × (before_padding rules.HeadersPadding pad behind ≡ Ok content))
+    of : ((following : List ℕ) × (after_priority flags octets ≡ Ok following) × (before_padding rules.HeadersPadding pad following ≡ Ok content))
         → (priority : List ℕ) × (length priority ≡ (if has flags PRIORITY then 5 else 0)) × IsPadded true (pad ∷ octets) (priority ++ content)
-    of (behind, b, c) = parts behind (padding_layout rules.HeadersPadding pad behind content c) (priority_layout (has flags PRIORITY) octets behind b)
+    of (following, b, c) = parts following (padding_layout rules.HeadersPadding pad following content c) (priority_layout (has flags PRIORITY) octets following b)
 
 padded_headers_again : (b : Bool) (flags : ℕ) (payload priority content : List ℕ) → length priority ≡ (if has flags PRIORITY then 5 else 0) → IsPadded b payload (priority ++ content)
-    → (if b then padded_headers flags payload else behind_priority flags payload) ≡ done content
+    → (if b then padded_headers flags payload else after_priority flags payload) ≡ done content
 unfolding padded_headers
-padded_headers_again false flags payload priority content five e = ap (λ o. behind_priority flags o) e ∙ priority_again (has flags PRIORITY) priority content five
+padded_headers_again false flags payload priority content five e = ap (λ o. after_priority flags o) e ∙ priority_again (has flags PRIORITY) priority content five
 padded_headers_again true flags payload priority content five (padding, e) =
     ap (λ o. padded_headers flags o) (e ∙ ap (λ o. length padding ∷ o) (append_assoc priority content padding))
-    ∙ ap (λ r. r >>= λ behind. before_padding rules.HeadersPadding (length padding) behind) (priority_again (has flags PRIORITY) priority (content ++ padding) five)
+    ∙ ap (λ r. r >>= λ following. before_padding rules.HeadersPadding (length padding) following) (priority_again (has flags PRIORITY) priority (content ++ padding) five)
     ∙ padding_again rules.HeadersPadding content padding
 
 headers_layout : (h : FrameHeader) (p : List ℕ) (f : Frame) → h.kind ≡ types.Headers → headers_of h p ≡ Ok f → HasLayout f h p
@@ -253,21 +253,21 @@ settings_layout (a ∷ b ∷ c ∷ d ∷ e ∷ f ∷ payload) h = (
   settings_layout payload (omega arith),
 )
 
-setting_again : (octets behind : List ℕ) (setting : Setting) → IsSetting octets setting behind → settings_of octets ≡ setting ∷ settings_of behind
-setting_again octets behind setting s =
+setting_again : (octets following : List ℕ) (setting : Setting) → IsSetting octets setting following → settings_of octets ≡ setting ∷ settings_of following
+setting_again octets following setting s =
     ap settings_of s.octets_is
-    ∙ ap (λ n. record { id = n; value = u32_of s.c s.d s.e s.f } ∷ settings_of behind) (sym s.id_is)
-    ∙ ap (λ n. record { id = setting.id; value = n } ∷ settings_of behind) (sym s.value_is)
+    ∙ ap (λ n. record { id = n; value = u32_of s.c s.d s.e s.f } ∷ settings_of following) (sym s.id_is)
+    ∙ ap (λ n. record { id = setting.id; value = n } ∷ settings_of following) (sym s.value_is)
 
 pub settings_again : (payload : List ℕ) (settings : List Setting) → AreSettings payload settings → settings_of payload ≡ settings
 settings_again payload [] e = ap settings_of e
-settings_again payload (setting ∷ settings) (behind, first, others) = setting_again payload behind setting first ∙ ap (λ ss. setting ∷ ss) (settings_again behind settings others)
+settings_again payload (setting ∷ settings) (following, first, others) = setting_again payload following setting first ∙ ap (λ ss. setting ∷ ss) (settings_again following settings others)
 
 pub settings_len : (payload : List ℕ) (settings : List Setting) → AreSettings payload settings → length payload ≡ 6 * length settings
 settings_len payload [] e = ap length e
-settings_len payload (setting ∷ settings) (behind, first, others) =
-    let count = settings_len behind settings others in
-    let whole : length payload ≡ length behind + 6 = ap length first.octets_is ∙ omega arith in
+settings_len payload (setting ∷ settings) (following, first, others) =
+    let count = settings_len following settings others in
+    let whole : length payload ≡ length following + 6 = ap length first.octets_is ∙ omega arith in
     omega arith
 
 unless_ok : (settings : List Setting) (rule : Option FrameRule) (f : Frame) → unless_broken settings rule ≡ Ok f → (rule ≡ None) × (Settings settings ≡ f)

@@ -52,22 +52,22 @@ pub record IsRstStream (header : FrameHeader) (payload : List ℕ) (stream code 
   pub payload_is : payload ≡ a ∷ b ∷ c ∷ d ∷ []
   pub code_is : code ≡ u32_of a b c d
 
--- a setting (section 6.5.1), and what stands behind it: an identifier of two octets, and a value of four
-pub record IsSetting (octets : List ℕ) (setting : Setting) (behind : List ℕ) : Type 0 where
+-- a setting (section 6.5.1), and what stands after it: an identifier of two octets, and a value of four
+pub record IsSetting (octets : List ℕ) (setting : Setting) (following : List ℕ) : Type 0 where
   pub a : ℕ
   pub b : ℕ
   pub c : ℕ
   pub d : ℕ
   pub e : ℕ
   pub f : ℕ
-  pub octets_is : octets ≡ a ∷ b ∷ c ∷ d ∷ e ∷ f ∷ behind
+  pub octets_is : octets ≡ a ∷ b ∷ c ∷ d ∷ e ∷ f ∷ following
   pub id_is : setting.id ≡ u16_of a b
   pub value_is : setting.value ≡ u32_of c d e f
 
--- settings, one behind another
+-- settings, one after another
 abbrev pub AreSettings : List ℕ → List Setting → Type 0
 AreSettings octets [] = octets ≡ []
-AreSettings octets (setting ∷ settings) = (behind : List ℕ) × IsSetting octets setting behind × AreSettings behind settings
+AreSettings octets (setting ∷ settings) = (following : List ℕ) × IsSetting octets setting following × AreSettings following settings
 
 -- SETTINGS (section 6.5): without ACK settings, with ACK nothing
 pub record IsSettings (header : FrameHeader) (payload : List ℕ) (pairs : List Setting) : Type 0 where

@@ -7,7 +7,6 @@ pub mod Layouts
 pub mod Numbers
 pub mod PayloadAnswers
 pub mod PayloadReading
-pub mod Reading
 pub mod RuleLaws
 pub mod Rules
 pub mod Writable

@@ -12,7 +12,7 @@ use Rattle.h2_layouts.specs.declared.rule.FrameRule.{FrameRule}
 use Rattle.h2_layouts.specs.declared.rule.FrameRule.TheVariants as rules
 use Rattle.h2_layouts.specs.declared.setting.Setting.{Setting}
 use Rattle.h2_layouts.specs.Numbers.{u32_of, u31_of, has}
-use Rattle.h2_layouts.specs.Reading.{◌>>=◌}
+use Rattle.esi_base.specs.Answers.{◌>>=◌}
 use Rattle.h2_layouts.specs.Rules.{settings_of, pushes, is_window_too_large, is_frame_size_out_of_range}
 
 -- the stream of a frame that is on a stream
@@ -42,17 +42,17 @@ data_of header payload = do
   Ok (Content stream (has header.flags END_STREAM) octets (length payload))
 
 -- HEADERS
-abbrev pub behind_priority : ℕ → List ℕ → Result (List ℕ) FrameRule
-behind_priority flags octets = if has flags PRIORITY then (if nat_lt (length octets) 5 then Err rules.HeadersLength else Ok (drop 5 octets)) else Ok octets
+abbrev pub after_priority : ℕ → List ℕ → Result (List ℕ) FrameRule
+after_priority flags octets = if has flags PRIORITY then (if nat_lt (length octets) 5 then Err rules.HeadersLength else Ok (drop 5 octets)) else Ok octets
 
 unfoldable pub padded_headers : ℕ → List ℕ → Result (List ℕ) FrameRule
 padded_headers flags [] = Err rules.HeadersLength
 padded_headers flags (pad ∷ octets) = do
-  behind ← behind_priority flags octets
-  before_padding rules.HeadersPadding pad behind
+  following ← after_priority flags octets
+  before_padding rules.HeadersPadding pad following
 
 abbrev pub headers_octets : ℕ → List ℕ → Result (List ℕ) FrameRule
-headers_octets flags payload = if has flags PADDED then padded_headers flags payload else behind_priority flags payload
+headers_octets flags payload = if has flags PADDED then padded_headers flags payload else after_priority flags payload
 
 unfoldable pub headers_of : FrameHeader → List ℕ → Result Frame FrameRule
 headers_of header payload = do
@@ -92,11 +92,11 @@ abbrev pub unless_broken : List Setting → Option FrameRule → Result Frame Fr
 unless_broken settings (Some rule) = Err rule
 unless_broken settings None = Ok (Settings settings)
 
-abbrev pub judged_settings : Role → List Setting → Result Frame FrameRule
-judged_settings role settings = unless_broken settings (broken_setting role settings)
+abbrev pub lawful_settings : Role → List Setting → Result Frame FrameRule
+lawful_settings role settings = unless_broken settings (broken_setting role settings)
 
 abbrev pub settings_at : Role → List ℕ → Result Frame FrameRule
-settings_at role payload = if length payload % 6 == 0 then judged_settings role (settings_of payload) else Err rules.SettingsLength
+settings_at role payload = if length payload % 6 == 0 then lawful_settings role (settings_of payload) else Err rules.SettingsLength
 
 unfoldable pub settings_frame_of : Role → FrameHeader → List ℕ → Result Frame FrameRule
 settings_frame_of role header payload = do

@@ -1,4 +1,4 @@
--- The rules of frames (RFC 9113, sections 3.4, 4.2 and 6): when each is broken, in which order they are judged,
+-- The rules of frames (RFC 9113, sections 3.4, 4.2 and 6): when each is broken, in which order they are checked,
 -- and the error code of each.
 use Rattle.std.specs.Prelude.{ℕ, ◌+◌, ◌-◌, ◌%◌, ◌==◌, nat_lt, nat_le, Bool, true, false, not, ◌&&◌, List, [], ◌∷◌, length, Option, Some, None, find, if◌then◌else◌}
 use Rattle.std.specs.List.{list_any}
@@ -94,11 +94,11 @@ breaks context header payload GoAwayLength = nat_lt (length payload) 8
 breaks context header payload WindowUpdateLength = not (length payload == 4)
 breaks context header payload Increment = (header.stream == 0) && (increment_of payload == 0)
 
--- the rules that are judged when the nine octets of a header stand, in order
+-- the rules that are checked when the nine octets of a header stand, in order
 abbrev pub header_rules : List FrameRule
 header_rules = FrameSize ∷ FirstSettings ∷ OpenBlock ∷ NoBlock ∷ []
 
--- the rules of each type, which are judged when the frame stands whole, in order
+-- the rules of each type, which are checked when the frame stands whole, in order
 abbrev pub payload_rules : FrameType → List FrameRule
 payload_rules types.Data = OnStream ∷ DataPadLength ∷ DataPadding ∷ []
 payload_rules types.Headers = OnStream ∷ HeadersLength ∷ HeadersPadding ∷ []

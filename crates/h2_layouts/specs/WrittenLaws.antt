@@ -36,7 +36,7 @@ u16_again n = omega arith
 -- ---- headers
 
 -- a header's nine octets are that header
-pub header_again : (h : FrameHeader) → h.length < 16777216 → h.stream < 2147483648 → type_of (number_of h.kind) ≡ h.kind → header_of (header_octets h) ≡ h
+header_again : (h : FrameHeader) → h.length < 16777216 → h.stream < 2147483648 → type_of (number_of h.kind) ≡ h.kind → header_of (header_octets h) ≡ h
 header_again h length stream kind =
     ap (λ n. record { length = n; kind = type_of (number_of h.kind); flags = h.flags; stream = u31_of (h.stream / 16777216) (h.stream / 65536 % 256) (h.stream / 256 % 256) (h.stream % 256) }) (u24_again h.length length)
     ∙ ap (λ k. record { length = h.length; kind = k; flags = h.flags; stream = u31_of (h.stream / 16777216) (h.stream / 65536 % 256) (h.stream / 256 % 256) (h.stream % 256) }) kind

@@ -3,10 +3,10 @@
 /// The stream, or the connection, ends without an error.
 pub const NO_ERROR: u32 = 0x0;
 
-/// A rule of the protocol is broken, and no code tells it more closely.
+/// A rule of the protocol is broken, and no code says it more closely.
 pub const PROTOCOL_ERROR: u32 = 0x1;
 
-/// The end that tells it has met a fault of its own.
+/// The end that reports it has met a fault of its own.
 pub const INTERNAL_ERROR: u32 = 0x2;
 
 /// A rule of flow control is broken.

@@ -49,7 +49,7 @@ impl FrameContext {
         }
     }
 
-    /// Where the next frame stands, behind this one.
+    /// Where the next frame stands, after this one.
     pub fn after(self, frame: &Frame) -> FrameContext
         ensures { result ≡ context_after self frame.now }
     {

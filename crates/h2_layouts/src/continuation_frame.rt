@@ -1,6 +1,6 @@
 //! CONTINUATION (RFC 9113, section 6.10).
 ghost use Rattle.h2_layouts.specs.PayloadReading.{continuation_of};
-ghost use Rattle.h2_layouts.specs.Reading.{Gives};
+ghost use Rattle.esi_base.specs.Answers.{Reads};
 ghost use Rattle.std.specs.Prelude.{◌≡◌, ◌≤◌, ◌+◌, length};
 ghost use Rattle.h2_layouts.specs.declared.frame.Frame.TheVariants.{Continued as continued};
 ghost use Rattle.h2_layouts.specs.declared.limit.TheConstants.{LONGEST_PAYLOAD};
@@ -10,14 +10,14 @@ use crate::flag::END_HEADERS;
 use crate::frame::Frame;
 use crate::frame_type::FrameType;
 use crate::header::FrameHeader;
-use crate::stop::PayloadStop;
+use crate::reading::PayloadStop;
 use crate::writing::write_payload;
 use esi_base::List;
 use std::alloc::Global;
 
 /// The frame that a payload is.
 pub(crate) fn read(alloc: Global, header: FrameHeader, payload: &[u8]) -> Result<Frame, PayloadStop>
-    ensures { Gives (λ x. x) result (continuation_of header payload.now) }
+    ensures { Reads (continuation_of header payload.now) result }
 {
     Ok(Frame::Continued {
         stream: header.stream,

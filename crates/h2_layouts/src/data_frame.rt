@@ -1,7 +1,8 @@
 //! DATA (RFC 9113, section 6.1).
 ghost use Rattle.std.specs.Prelude.{◌≡◌, ◌≤◌, ◌+◌, length};
 ghost use Rattle.h2_layouts.specs.PayloadReading.{data_of, data_octets as octets_of_data};
-ghost use Rattle.h2_layouts.specs.Reading.{Gives, Reads};
+ghost use Rattle.std.specs.Result.{result_map_both};
+ghost use Rattle.esi_base.specs.Answers.{Reads};
 ghost use Rattle.h2_layouts.specs.declared.frame.Frame.TheVariants.{Content as content};
 ghost use Rattle.h2_layouts.specs.declared.limit.TheConstants.{LONGEST_PAYLOAD};
 ghost use Rattle.h2_layouts.specs.Written.{octets_of};
@@ -11,8 +12,8 @@ use crate::frame::Frame;
 use crate::frame_type::FrameType;
 use crate::header::FrameHeader;
 use crate::placing::{before_padding, stream_of};
+use crate::reading::PayloadStop;
 use crate::rule::FrameRule;
-use crate::stop::PayloadStop;
 use crate::writing::write_payload;
 use esi_base::List;
 use std::alloc::Global;
@@ -21,10 +22,10 @@ use std::alloc::Global;
 #[tactic(auto, unfolding(crate::specs::PayloadReading::data_of))]
 pub(crate) fn read(alloc: Global, header: FrameHeader, payload: &[u8]) -> Result<Frame, PayloadStop>
     requires { length payload.now ≡ header.length }
-    ensures { Gives (λ x. x) result (data_of header payload.now) }
+    ensures { Reads (data_of header payload.now) result }
 {
-    let stream = stream_of(header)?;
-    let octets = data_octets(header, payload)?;
+    let stream = stream_of(header).map_err(PayloadStop::Refused)?;
+    let octets = data_octets(header, payload).map_err(PayloadStop::Refused)?;
     Ok(Frame::Content {
         stream,
         end: header.has(END_STREAM),
@@ -35,7 +36,7 @@ pub(crate) fn read(alloc: Global, header: FrameHeader, payload: &[u8]) -> Result
 
 /// The octets without padding.
 fn data_octets(header: FrameHeader, payload: &[u8]) -> Result<&[u8], FrameRule>
-    ensures { Reads (λ x. x.now) result (octets_of_data header.flags payload.now) }
+    ensures { octets_of_data header.flags payload.now ≡ result_map_both (λ octets. octets.now) (λ rule. rule) result }
 {
     if !header.has(PADDED) {
         return Ok(payload);

@@ -25,7 +25,7 @@ pub enum Frame {
         end: bool,
         /// Whether the header block is whole with this frame (END_HEADERS).
         last: bool,
-        /// The header block, or its front, without padding and priority.
+        /// The header block, or a prefix of it, without padding and priority.
         octets: Octets,
     },
     /// PRIORITY (section 6.3), which says nothing any more.

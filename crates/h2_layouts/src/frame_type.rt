@@ -7,7 +7,7 @@ ghost use Rattle.h2_layouts.specs.FrameTypes.{number_of, type_of};
 pub enum FrameType {
     /// DATA, type 0: octets of a stream (section 6.1).
     Data,
-    /// HEADERS, type 1: a header block, or its front, which may open a stream (section 6.2).
+    /// HEADERS, type 1: a header block, or a prefix of it, which may open a stream (section 6.2).
     Headers,
     /// PRIORITY, type 2: no longer used (section 6.3).
     Priority,

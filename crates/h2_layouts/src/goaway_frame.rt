@@ -1,7 +1,7 @@
 //! GOAWAY (RFC 9113, section 6.8).
 ghost use Rattle.std.specs.Prelude.{◌≡◌, length};
 ghost use Rattle.h2_layouts.specs.PayloadReading.{goaway_of, goaway_at as goaway_there};
-ghost use Rattle.h2_layouts.specs.Reading.{Gives};
+ghost use Rattle.esi_base.specs.Answers.{Reads};
 ghost use Rattle.h2_layouts.specs.declared.frame.Frame.TheVariants.{GoAway as goaway};
 ghost use Rattle.h2_layouts.specs.Written.{octets_of};
 
@@ -10,17 +10,17 @@ use crate::frame_type::FrameType;
 use crate::header::FrameHeader;
 use crate::limit::STREAMS;
 use crate::placing::on_connection;
+use crate::reading::PayloadStop;
 use crate::rule::FrameRule;
-use crate::stop::PayloadStop;
 use crate::writing::write_payload;
 
 /// The frame that a payload is.
 #[tactic(auto, unfolding(crate::specs::PayloadReading::goaway_of))]
 pub(crate) fn read(header: FrameHeader, payload: &[u8]) -> Result<Frame, PayloadStop>
-    ensures { Gives (λ x. x) result (goaway_of header payload.now) }
+    ensures { Reads (goaway_of header payload.now) result }
 {
-    on_connection(header)?;
-    Ok(goaway_at(payload)?)
+    on_connection(header).map_err(PayloadStop::Refused)?;
+    goaway_at(payload).map_err(PayloadStop::Refused)
 }
 
 /// The last stream and the error code, with which a payload begins. The bit before the stream is

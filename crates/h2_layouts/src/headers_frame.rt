@@ -1,7 +1,8 @@
 //! HEADERS (RFC 9113, section 6.2).
 ghost use Rattle.std.specs.Prelude.{◌≡◌, ◌≤◌, ◌+◌, length};
-ghost use Rattle.h2_layouts.specs.PayloadReading.{headers_of, headers_octets as octets_of_headers, padded_headers as octets_of_padded, behind_priority as octets_behind};
-ghost use Rattle.h2_layouts.specs.Reading.{Gives, Reads};
+ghost use Rattle.h2_layouts.specs.PayloadReading.{headers_of, headers_octets as octets_of_headers, padded_headers as octets_of_padded, after_priority as octets_after};
+ghost use Rattle.std.specs.Result.{result_map_both};
+ghost use Rattle.esi_base.specs.Answers.{Reads};
 ghost use Rattle.h2_layouts.specs.declared.frame.Frame.TheVariants.{Head as head};
 ghost use Rattle.h2_layouts.specs.declared.limit.TheConstants.{LONGEST_PAYLOAD};
 ghost use Rattle.h2_layouts.specs.Written.{octets_of};
@@ -12,8 +13,8 @@ use crate::frame_type::FrameType;
 use crate::header::FrameHeader;
 use crate::placing::{before_padding, stream_of};
 use crate::priority_frame::PRIORITY_OCTETS;
+use crate::reading::PayloadStop;
 use crate::rule::FrameRule;
-use crate::stop::PayloadStop;
 use crate::writing::write_payload;
 use esi_base::List;
 use std::alloc::Global;
@@ -21,10 +22,10 @@ use std::alloc::Global;
 /// The frame that a payload is.
 #[tactic(auto, unfolding(crate::specs::PayloadReading::headers_of))]
 pub(crate) fn read(alloc: Global, header: FrameHeader, payload: &[u8]) -> Result<Frame, PayloadStop>
-    ensures { Gives (λ x. x) result (headers_of header payload.now) }
+    ensures { Reads (headers_of header payload.now) result }
 {
-    let stream = stream_of(header)?;
-    let octets = headers_octets(header, payload)?;
+    let stream = stream_of(header).map_err(PayloadStop::Refused)?;
+    let octets = headers_octets(header, payload).map_err(PayloadStop::Refused)?;
     Ok(Frame::Head {
         stream,
         end: header.has(END_STREAM),
@@ -33,32 +34,32 @@ pub(crate) fn read(alloc: Global, header: FrameHeader, payload: &[u8]) -> Result
     })
 }
 
-/// The front of a header block, without padding and priority.
+/// A prefix of a header block, without padding and priority.
 fn headers_octets(header: FrameHeader, payload: &[u8]) -> Result<&[u8], FrameRule>
-    ensures { Reads (λ x. x.now) result (octets_of_headers header.flags payload.now) }
+    ensures { octets_of_headers header.flags payload.now ≡ result_map_both (λ octets. octets.now) (λ rule. rule) result }
 {
     if header.has(PADDED) {
         padded_headers(header, payload)
     } else {
-        behind_priority(header, payload)
+        after_priority(header, payload)
     }
 }
 
 /// The same with padding.
 #[tactic(auto, unfolding(crate::specs::PayloadReading::padded_headers))]
 fn padded_headers(header: FrameHeader, payload: &[u8]) -> Result<&[u8], FrameRule>
-    ensures { Reads (λ x. x.now) result (octets_of_padded header.flags payload.now) }
+    ensures { octets_of_padded header.flags payload.now ≡ result_map_both (λ octets. octets.now) (λ rule. rule) result }
 {
     let [pad, octets @ ..] = payload else {
         return Err(FrameRule::HeadersLength);
     };
-    let octets = behind_priority(header, octets)?;
+    let octets = after_priority(header, octets)?;
     before_padding(FrameRule::HeadersPadding, *pad, octets)
 }
 
-/// The octets behind those of the priority.
-fn behind_priority(header: FrameHeader, octets: &[u8]) -> Result<&[u8], FrameRule>
-    ensures { Reads (λ x. x.now) result (octets_behind header.flags octets.now) }
+/// The octets after those of the priority.
+fn after_priority(header: FrameHeader, octets: &[u8]) -> Result<&[u8], FrameRule>
+    ensures { octets_after header.flags octets.now ≡ result_map_both (λ octets. octets.now) (λ rule. rule) result }
 {
     if !header.has(PRIORITY) {
         return Ok(octets);

@@ -13,7 +13,7 @@ ghost use Rattle.h2_layouts.specs.Written.{octets_of, IsWritable};
 pub fn layout_law()
     ensures once { (role : Role) (octets : List ℕ) (frame other : Frame)
         → IsFrame role octets frame → IsFrame role octets other → frame ≡ other }
-    ensures judged { (role : Role) (header : FrameHeader) (payload : List ℕ)
+    ensures frame_or_rule { (role : Role) (header : FrameHeader) (payload : List ℕ)
         → HasFrame role header payload ⊎ HasRule role header payload }
     ensures written { (frame : Frame) → IsWritable frame
         → (role : Role) → IsFrame role (octets_of frame) frame }

@@ -23,7 +23,6 @@ mod rst_stream_frame;
 pub mod rule;
 pub mod setting;
 mod settings_frame;
-pub mod stop;
 mod window_update_frame;
 mod writing;
 
@@ -32,9 +31,8 @@ pub use frame::Frame;
 pub use frame_type::FrameType;
 pub use header::FrameHeader;
 pub use laws::layout_law;
-pub use reading::read_payload;
+pub use reading::{PayloadStop, read_payload};
 pub use role::Role;
 pub use rule::FrameRule;
 pub use setting::Setting;
-pub use stop::PayloadStop;
 pub use writing::{frame_len, is_writable, write_frame};

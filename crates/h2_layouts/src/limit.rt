@@ -14,6 +14,6 @@ pub const GREATEST_FRAME_SIZE: u32 = 16_777_215;
 /// Streams, and increments of windows, are below this number: they have 31 bits (section 4.1).
 pub const STREAMS: u32 = 2_147_483_648;
 
-const _: () = prove!(LONGEST_PAYLOAD == 16_384 && GREATEST_WINDOW == (1 << 31) - 1);
+const _: () = prove!(LONGEST_PAYLOAD == 16384 && GREATEST_WINDOW == 2147483647);
 
-const _: () = prove!(GREATEST_FRAME_SIZE == (1 << 24) - 1 && STREAMS == 1 << 31);
+const _: () = prove!(GREATEST_FRAME_SIZE == 16777215 && STREAMS == 2147483648);

@@ -1,7 +1,7 @@
 //! PING (RFC 9113, section 6.7).
 ghost use Rattle.std.specs.Prelude.{◌≡◌, ◌+◌, length};
 ghost use Rattle.h2_layouts.specs.PayloadReading.{ping_of, eight_octets as eight_of};
-ghost use Rattle.h2_layouts.specs.Reading.{Gives};
+ghost use Rattle.esi_base.specs.Answers.{Reads};
 ghost use Rattle.h2_layouts.specs.declared.frame.Frame.TheVariants.{Ping as ping};
 ghost use Rattle.h2_layouts.specs.Written.{octets_of};
 
@@ -10,17 +10,17 @@ use crate::frame::Frame;
 use crate::frame_type::FrameType;
 use crate::header::FrameHeader;
 use crate::placing::on_connection;
+use crate::reading::PayloadStop;
 use crate::rule::FrameRule;
-use crate::stop::PayloadStop;
 use crate::writing::write_payload;
 
 /// The frame that a payload is.
 #[tactic(auto, unfolding(crate::specs::PayloadReading::ping_of))]
 pub(crate) fn read(header: FrameHeader, payload: &[u8]) -> Result<Frame, PayloadStop>
-    ensures { Gives (λ x. x) result (ping_of header payload.now) }
+    ensures { Reads (ping_of header payload.now) result }
 {
-    on_connection(header)?;
-    let octets = eight_octets(payload)?;
+    on_connection(header).map_err(PayloadStop::Refused)?;
+    let octets = eight_octets(payload).map_err(PayloadStop::Refused)?;
     Ok(Frame::Ping {
         ack: header.has(ACK),
         octets,

@@ -1,7 +1,7 @@
 //! On which stream a frame is, and the octets that are not padding.
 ghost use Rattle.std.specs.Prelude.{◌≡◌};
 ghost use Rattle.h2_layouts.specs.PayloadReading.{stream_of, on_connection, before_padding as octets_before};
-ghost use Rattle.h2_layouts.specs.Reading.{Reads};
+ghost use Rattle.std.specs.Result.{result_map_both};
 
 use crate::header::FrameHeader;
 use crate::rule::FrameRule;
@@ -30,7 +30,7 @@ pub(crate) fn on_connection(header: FrameHeader) -> Result<(), FrameRule>
 
 /// The octets before so much padding; the rule where there are not as many.
 pub(crate) fn before_padding(rule: FrameRule, pad: u8, octets: &[u8]) -> Result<&[u8], FrameRule>
-    ensures { Reads (λ x. x.now) result (octets_before rule pad octets.now) }
+    ensures { octets_before rule pad octets.now ≡ result_map_both (λ octets. octets.now) (λ rule. rule) result }
 {
     let pad = usize::from(pad);
     if octets.len() < pad {

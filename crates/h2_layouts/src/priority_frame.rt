@@ -1,6 +1,6 @@
 //! PRIORITY (RFC 9113, section 6.3).
 ghost use Rattle.h2_layouts.specs.PayloadReading.{priority_of};
-ghost use Rattle.h2_layouts.specs.Reading.{Gives};
+ghost use Rattle.esi_base.specs.Answers.{Reads};
 ghost use Rattle.std.specs.Prelude.{◌≡◌, length};
 ghost use Rattle.h2_layouts.specs.declared.frame.Frame.TheVariants.{Priority as priority};
 ghost use Rattle.h2_layouts.specs.Written.{octets_of};
@@ -9,8 +9,8 @@ use crate::frame::Frame;
 use crate::frame_type::FrameType;
 use crate::header::FrameHeader;
 use crate::placing::stream_of;
+use crate::reading::PayloadStop;
 use crate::rule::FrameRule;
-use crate::stop::PayloadStop;
 use crate::writing::write_payload;
 
 /// How many octets a payload has: the stream that this one depends on, and a weight.
@@ -21,13 +21,13 @@ const _: () = prove!(PRIORITY_OCTETS == 5);
 /// The frame that a payload is.
 #[tactic(auto, unfolding(crate::specs::PayloadReading::priority_of))]
 pub(crate) fn read(header: FrameHeader, payload: &[u8]) -> Result<Frame, PayloadStop>
-    ensures { Gives (λ x. x) result (priority_of header payload.now) }
+    ensures { Reads (priority_of header payload.now) result }
 {
-    let stream = stream_of(header)?;
+    let stream = stream_of(header).map_err(PayloadStop::Refused)?;
     if payload.len() == PRIORITY_OCTETS {
         Ok(Frame::Priority { stream })
     } else {
-        Err(PayloadStop::Broken(FrameRule::PriorityLength))
+        Err(PayloadStop::Refused(FrameRule::PriorityLength))
     }
 }
 

@@ -1,7 +1,7 @@
 //! RST_STREAM (RFC 9113, section 6.4).
 ghost use Rattle.std.specs.Prelude.{◌≡◌, length};
 ghost use Rattle.h2_layouts.specs.PayloadReading.{rst_stream_of, code_at as code_there};
-ghost use Rattle.h2_layouts.specs.Reading.{Gives};
+ghost use Rattle.esi_base.specs.Answers.{Reads};
 ghost use Rattle.h2_layouts.specs.declared.frame.Frame.TheVariants.{Reset as reset};
 ghost use Rattle.h2_layouts.specs.Written.{octets_of};
 
@@ -9,17 +9,17 @@ use crate::frame::Frame;
 use crate::frame_type::FrameType;
 use crate::header::FrameHeader;
 use crate::placing::stream_of;
+use crate::reading::PayloadStop;
 use crate::rule::FrameRule;
-use crate::stop::PayloadStop;
 use crate::writing::write_payload;
 
 /// The frame that a payload is.
 #[tactic(auto, unfolding(crate::specs::PayloadReading::rst_stream_of))]
 pub(crate) fn read(header: FrameHeader, payload: &[u8]) -> Result<Frame, PayloadStop>
-    ensures { Gives (λ x. x) result (rst_stream_of header payload.now) }
+    ensures { Reads (rst_stream_of header payload.now) result }
 {
-    let stream = stream_of(header)?;
-    let code = code_at(payload)?;
+    let stream = stream_of(header).map_err(PayloadStop::Refused)?;
+    let code = code_at(payload).map_err(PayloadStop::Refused)?;
     Ok(Frame::Reset { stream, code })
 }
 

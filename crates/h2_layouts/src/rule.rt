@@ -27,7 +27,7 @@ pub enum FrameRule {
     DataPadding,
     /// HEADERS has the octets that its flags ask for: one of PADDED, five of PRIORITY (section 6.2).
     HeadersLength,
-    /// The padding of HEADERS is at most what stands behind these octets (section 6.2).
+    /// The padding of HEADERS is at most what stands after these octets (section 6.2).
     HeadersPadding,
     /// PRIORITY has 5 octets (section 6.3).
     PriorityLength,

@@ -2,12 +2,12 @@
 ghost use Rattle.std.specs.Prelude.{◌≡◌, ◌≤◌, ◌+◌, length, IfOk};
 ghost use Rattle.std.specs.List.{list_any, flat_map};
 ghost use Rattle.h2_layouts.specs.PayloadReading.{settings_frame_of, settings_at as settings_there, broken_setting, acknowledged as acknowledged_by};
-ghost use Rattle.h2_layouts.specs.Reading.{Gives, Reads};
+ghost use Rattle.esi_base.specs.Answers.{Reads};
 ghost use Rattle.h2_layouts.specs.Rules.{settings_of as settings_in, pushes as pushes_to, is_window_too_large, is_frame_size_out_of_range, greatest_push};
 ghost use Rattle.h2_layouts.specs.declared.frame.Frame.TheVariants.{Settings as settings, SettingsAck as settings_ack};
 ghost use Rattle.h2_layouts.specs.declared.limit.TheConstants.{LONGEST_PAYLOAD};
 ghost use Rattle.h2_layouts.specs.Writable.{are_lawful};
-ghost use Rattle.h2_layouts.specs.Written.{octets_of, setting_octets as octets_of_setting, header_octets as octets_of_header};
+ghost use Rattle.h2_layouts.specs.Written.{octets_of, setting_octets as octets_of_setting};
 
 use crate::flag::ACK;
 use crate::frame::Frame;
@@ -15,13 +15,13 @@ use crate::frame_type::FrameType;
 use crate::header::{FrameHeader, HEADER_OCTETS};
 use crate::limit::{GREATEST_FRAME_SIZE, GREATEST_WINDOW, LONGEST_PAYLOAD};
 use crate::placing::on_connection;
+use crate::reading::PayloadStop;
 use crate::role::Role;
 use crate::rule::FrameRule;
 use crate::setting::{ENABLE_PUSH, INITIAL_WINDOW_SIZE, MAX_FRAME_SIZE, Setting};
-use crate::stop::PayloadStop;
 use crate::writing::{write_header, write_payload};
-use esi_base::List;
-use std::alloc::{AllocError, Global};
+use esi_base::{List, NoMemory};
+use std::alloc::Global;
 
 /// How many octets a setting has.
 const SETTING_OCTETS: usize = 6;
@@ -36,11 +36,11 @@ pub(crate) fn read(
     header: FrameHeader,
     payload: &[u8],
 ) -> Result<Frame, PayloadStop>
-    ensures { Gives (λ x. x) result (settings_frame_of role header payload.now) }
+    ensures { Reads (settings_frame_of role header payload.now) result }
 {
-    on_connection(header)?;
+    on_connection(header).map_err(PayloadStop::Refused)?;
     if header.has(ACK) {
-        Ok(acknowledged(payload)?)
+        acknowledged(payload).map_err(PayloadStop::Refused)
     } else {
         settings_at(alloc, role, payload)
     }
@@ -59,35 +59,33 @@ fn acknowledged(payload: &[u8]) -> Result<Frame, FrameRule>
 
 /// The settings that a payload is.
 fn settings_at(alloc: Global, role: Role, payload: &[u8]) -> Result<Frame, PayloadStop>
-    ensures { Gives (λ x. x) result (settings_there role payload.now) }
+    ensures { Reads (settings_there role payload.now) result }
 {
     if payload.len() % SETTING_OCTETS != 0 {
-        return Err(PayloadStop::Broken(FrameRule::SettingsLength));
+        return Err(PayloadStop::Refused(FrameRule::SettingsLength));
     }
     let pairs = settings_of(alloc, payload)?;
     match broken_rule(role, pairs.as_slice()) {
-        Some(rule) => Err(PayloadStop::Broken(rule)),
+        Some(rule) => Err(PayloadStop::Refused(rule)),
         None => Ok(Frame::Settings { pairs }),
     }
 }
 
 /// The settings that octets are, six octets each.
-fn settings_of(alloc: Global, octets: &[u8]) -> Result<List<Setting>, AllocError>
+fn settings_of(alloc: Global, octets: &[u8]) -> Result<List<Setting>, NoMemory>
     ensures { IfOk result (λ pairs. pairs ≡ settings_in octets.now) }
 {
-    let mut pairs = Vec::new(alloc);
+    let mut pairs = List::new(alloc);
     let mut rest = octets;
-    'settings: while let [a, b, c, d, e, f, behind @ ..] = rest {
+    'settings: while let [a, b, c, d, e, f, following @ ..] = rest {
         let setting = Setting {
             id: u16::from_be_bytes([*a, *b]),
             value: u32::from_be_bytes([*c, *d, *e, *f]),
         };
-        if pairs.push(setting).is_err() {
-            return Err(AllocError);
-        }
-        rest = behind;
+        pairs.add(setting)?;
+        rest = following;
     }
-    Ok(List::from_vec(pairs))
+    Ok(pairs)
 }
 
 /// The first rule that a value breaks.

@@ -1,7 +1,7 @@
 //! WINDOW_UPDATE (RFC 9113, section 6.9).
 ghost use Rattle.std.specs.Prelude.{◌≡◌, length};
 ghost use Rattle.h2_layouts.specs.PayloadReading.{window_update_of, increment_at as increment_there};
-ghost use Rattle.h2_layouts.specs.Reading.{Gives};
+ghost use Rattle.esi_base.specs.Answers.{Reads};
 ghost use Rattle.h2_layouts.specs.declared.frame.Frame.TheVariants.{Update as update};
 ghost use Rattle.h2_layouts.specs.Written.{octets_of};
 
@@ -9,18 +9,18 @@ use crate::frame::Frame;
 use crate::frame_type::FrameType;
 use crate::header::FrameHeader;
 use crate::limit::STREAMS;
+use crate::reading::PayloadStop;
 use crate::rule::FrameRule;
-use crate::stop::PayloadStop;
 use crate::writing::write_payload;
 
 /// The frame that a payload is.
 #[tactic(auto, unfolding(crate::specs::PayloadReading::window_update_of))]
 pub(crate) fn read(header: FrameHeader, payload: &[u8]) -> Result<Frame, PayloadStop>
-    ensures { Gives (λ x. x) result (window_update_of header payload.now) }
+    ensures { Reads (window_update_of header payload.now) result }
 {
-    let increment = increment_at(payload)?;
+    let increment = increment_at(payload).map_err(PayloadStop::Refused)?;
     if header.stream == 0 && increment == 0 {
-        return Err(PayloadStop::Broken(FrameRule::Increment));
+        return Err(PayloadStop::Refused(FrameRule::Increment));
     }
     Ok(Frame::Update {
         stream: header.stream,

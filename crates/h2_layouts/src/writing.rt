@@ -100,7 +100,7 @@ pub(crate) fn write_header(kind: FrameType, flags: u8, stream: u32, len: usize, 
     out[..HEADER_OCTETS].copy_from_slice(&[a, b, c, kind.number(), flags, s, t, u, v]);
 }
 
-/// Writes a header, and the payload behind it, into as many octets.
+/// Writes a header, and the payload after it, into as many octets.
 pub(crate) fn write_payload(kind: FrameType, flags: u8, stream: u32, payload: &[u8], out: &mut [u8])
     requires small { length payload.now ≤ LONGEST_PAYLOAD }
     requires room { length out.old ≡ 9 + length payload.now }

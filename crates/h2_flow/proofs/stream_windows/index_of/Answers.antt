@@ -1,16 +1,16 @@
--- What the chain found is the place of the stream's windows, or there are none.
+-- What the chain found is the index of the stream's windows, or there are none.
 use Rattle.std.proofs.Common.{rules, tests, ◌≡◌}
 use Rattle.std.specs.List.{position}
 use Rattle.std.proofs.lemmas.Iterator.{YieldsList-from_slice}
 use Rattle.std.proofs.lemmas.Iterator.Search.{position_from_yields_List}
 use Rattle.h2_flow.specs.Streams.{is_of}
-use Rattle.h2_flow.specs.StreamLaws.{place_tells}
-use Rattle.h2_flow.proofs.stream_windows.place_of.Goals as goal
+use Rattle.h2_flow.specs.StreamLaws.{index_says}
+use Rattle.h2_flow.proofs.stream_windows.index_of.Goals as goal
 
 pub returns : goal.returns
 returns c =
     let rows = c.args.streams.now in
     let found : c.position.result ≡ position (is_of c.args.stream) rows =
     position_from_yields_List (is_of c.args.stream) _ _ c.position.result c.position.ensures.ran (YieldsList-from_slice rows cc) (λ x b q k. search (rules, tests)) in
-    let tells = place_tells c.args.stream rows c.position.result found in
-    record { closed = tells.0; place = tells.1 }
+    let says = index_says c.args.stream rows c.position.result found in
+    record { closed = says.0; index = says.1 }
