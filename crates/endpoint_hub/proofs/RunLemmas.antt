@@ -1,11 +1,12 @@
 -- What one call adds to what the calls after it did.
 use Rattle.std.proofs.Common.{◌≡◌, ℕ, ◌+◌, ◌<◌, Some, List, [], ◌∷◌, ◌++◌, length, sym, ap, ◌∙◌, append_assoc, subst, arith}
 use Rattle.std.proofs.lemmas.List.{append-nil, length-append}
-use Rattle.endpoint_hub.specs.Rings.{ring_at, front_of}
-use Rattle.endpoint_hub.specs.Holdings.{Holdings, Puts, Pops, Pushes, Hands, BeginsCycle}
-use Rattle.endpoint_hub.specs.Runs.{Call, IsRun, IsAccounted, only, words_put, words_popped, words_pushed, words_handed, words_taken, times_handed}
-use Rattle.endpoint_hub.specs.Runs.Call.{Put, Pop, Push, Hand, NextCycle}
-use Rattle.endpoint_hub.specs.RingLemmas.{ring_at-rings_with, ring_at-rings_without_front, words_taken-push, times_handed-push}
+use Rattle.cycle_rules.specs.Rings.{ring_at, front_of}
+use Rattle.endpoint_hub.specs.Holdings.{Holdings, Takes, Pops, Pushes, Hands, BeginsCycle}
+use Rattle.endpoint_hub.specs.Entries.{words_noted}
+use Rattle.endpoint_hub.specs.Runs.{Call, IsRun, IsAccounted, only, words_taken, words_popped, words_pushed, words_handed, times_handed}
+use Rattle.endpoint_hub.specs.Runs.Call.{Take, Pop, Push, Hand, NextCycle}
+use Rattle.endpoint_hub.specs.RingLemmas.{ring_at-rings_with, ring_at-rings_without_front, words_noted-push, times_handed-push}
 use Rattle.esi_base.specs.declared.word.Word.{Word}
 
 -- s: the ring after the call; o: the word that joined it
@@ -18,32 +19,32 @@ leaves r s o p q n e rest =
     ap (λ l. l ++ p) e ∙ (append_assoc o s p ∙ (ap (λ l. o ++ l) rest ∙ sym (append_assoc o q n)))
 
 module _ (c : ℕ) (old between new : Holdings) (calls : List Call) (rest : IsAccounted between calls new c) where
-  stays_to_server : between.to_server ≡ old.to_server → ring_at old.to_server c ++ words_put c calls ≡ words_popped c calls ++ ring_at new.to_server c
-  stays_to_server e = ap (λ rings. ring_at rings c ++ words_put c calls) (sym e) ∙ rest.to_server
+  stays_to_server : between.to_server ≡ old.to_server → ring_at old.to_server c ++ words_taken c calls ≡ words_popped c calls ++ ring_at new.to_server c
+  stays_to_server e = ap (λ rings. ring_at rings c ++ words_taken c calls) (sym e) ∙ rest.to_server
 
   stays_to_client : between.to_client ≡ old.to_client → ring_at old.to_client c ++ words_pushed c calls ≡ words_handed c calls ++ ring_at new.to_client c
   stays_to_client e = ap (λ rings. ring_at rings c ++ words_pushed c calls) (sym e) ∙ rest.to_client
 
-  stays_taken : between.journal.taken ≡ old.journal.taken → words_taken c new.journal.taken ≡ words_taken c old.journal.taken ++ words_put c calls
-  stays_taken e = rest.taken ∙ ap (λ l. words_taken c l ++ words_put c calls) e
+  stays_taken : between.journal.taken ≡ old.journal.taken → words_noted c new.journal.taken ≡ words_noted c old.journal.taken ++ words_taken c calls
+  stays_taken e = rest.taken ∙ ap (λ l. words_noted c l ++ words_taken c calls) e
 
   stays_handed : between.journal.handed ≡ old.journal.handed → times_handed c new.journal.handed ≡ times_handed c old.journal.handed + length (words_handed c calls)
   stays_handed e = rest.handed ∙ ap (λ l. times_handed c l + length (words_handed c calls)) e
 
-  put_first : (d conn stream : ℕ) (w : Word) → d < length old.to_server → Puts old between d conn stream w → IsAccounted old (Put d conn stream w ∷ calls) new c
-  put_first d conn stream w lt step = record {
-    to_server = joins (ring_at old.to_server c) (ring_at between.to_server c) (only c d w) (words_put c calls) (words_popped c calls) (ring_at new.to_server c) (ap (λ rings. ring_at rings c) step.to_server ∙ ring_at-rings_with old.to_server c d w lt) rest.to_server;
+  take_first : (d conn stream : ℕ) (w : Word) → d < length old.to_server → Takes old between d conn stream w → IsAccounted old (Take d conn stream w ∷ calls) new c
+  take_first d conn stream w lt step = record {
+    to_server = joins (ring_at old.to_server c) (ring_at between.to_server c) (only c d w) (words_taken c calls) (words_popped c calls) (ring_at new.to_server c) (ap (λ rings. ring_at rings c) step.to_server ∙ ring_at-rings_with old.to_server c d w lt) rest.to_server;
     to_client = stays_to_client step.to_client;
     taken = rest.taken
-        ∙ (ap (λ j. words_taken c j.taken ++ words_put c calls) step.journal
-        ∙ (ap (λ ws. ws ++ words_put c calls) (words_taken-push c old.journal.taken (record { cycle = old.journal.cycles; channel = d; conn = conn; stream = stream; word = w }))
-        ∙ append_assoc (words_taken c old.journal.taken) (only c d w) (words_put c calls)));
+        ∙ (ap (λ j. words_noted c j.taken ++ words_taken c calls) step.journal
+        ∙ (ap (λ ws. ws ++ words_taken c calls) (words_noted-push c old.journal.taken (record { cycle = old.journal.cycles; channel = d; conn = conn; stream = stream; word = w }))
+        ∙ append_assoc (words_noted c old.journal.taken) (only c d w) (words_taken c calls)));
     handed = stays_handed (ap (λ j. j.handed) step.journal);
   }
 
   pop_first : (d : ℕ) (w : Word) → front_of old.to_server d ≡ Some w → Pops old between d → IsAccounted old (Pop d w ∷ calls) new c
   pop_first d w front step = record {
-    to_server = leaves (ring_at old.to_server c) (ring_at between.to_server c) (only c d w) (words_put c calls) (words_popped c calls) (ring_at new.to_server c) (ring_at-rings_without_front old.to_server c d w front ∙ ap (λ rings. only c d w ++ ring_at rings c) (sym step.to_server)) rest.to_server;
+    to_server = leaves (ring_at old.to_server c) (ring_at between.to_server c) (only c d w) (words_taken c calls) (words_popped c calls) (ring_at new.to_server c) (ring_at-rings_without_front old.to_server c d w front ∙ ap (λ rings. only c d w ++ ring_at rings c) (sym step.to_server)) rest.to_server;
     to_client = stays_to_client step.to_client;
     taken = stays_taken (ap (λ j. j.taken) step.journal);
     handed = stays_handed (ap (λ j. j.handed) step.journal);
@@ -82,15 +83,15 @@ no_call : (c : ℕ) (hub : Holdings) → IsAccounted hub [] hub c
 no_call c hub = record {
   to_server = append-nil (ring_at hub.to_server c);
   to_client = append-nil (ring_at hub.to_client c);
-  taken = sym (append-nil (words_taken c hub.journal.taken));
+  taken = sym (append-nil (words_noted c hub.journal.taken));
   handed = omega arith;
 }
 
 -- any list of calls is accounted for
 pub accounted : (c : ℕ) (calls : List Call) (old new : Holdings) → IsRun old calls new → IsAccounted old calls new c
 accounted c [] old new same = subst (λ hub. IsAccounted old [] hub c) same (no_call c old)
-accounted c (Put d conn stream w ∷ calls) old new (between, (step, run)) =
-    put_first c old between new calls (accounted c calls between new run) d conn stream w step.0 step.1
+accounted c (Take d conn stream w ∷ calls) old new (between, (step, run)) =
+    take_first c old between new calls (accounted c calls between new run) d conn stream w step.0 step.1
 accounted c (Pop d w ∷ calls) old new (between, (step, run)) =
     pop_first c old between new calls (accounted c calls between new run) d w step.0 step.1
 accounted c (Push d w ∷ calls) old new (between, (step, run)) =

@@ -1,7 +1,7 @@
 -- What a hub holds, and what each call that changes it does.
 use Rattle.std.specs.Prelude.{◌≡◌, ℕ, ◌+◌, List, [], ◌∷◌, ◌++◌, replicate}
 use Rattle.endpoint_hub.specs.declared.journal.Journal.{Journal}
-use Rattle.endpoint_hub.specs.Rings.{rings_with, rings_without_front}
+use Rattle.cycle_rules.specs.Rings.{rings_with, rings_without_front}
 use Rattle.esi_base.specs.declared.word.Word.{Word}
 
 -- the rings of both sides, one for each channel, and what the session has noted
@@ -31,7 +31,7 @@ with_handed journal channel =
     record journal { handed = journal.handed ++ record { cycle = journal.cycles; channel = channel } ∷ [] }
 
 -- a value joins the end of its to-server ring, and is noted as taken
-pub record Puts (old new : Holdings) (channel conn stream : ℕ) (word : Word) : Type 0 where
+pub record Takes (old new : Holdings) (channel conn stream : ℕ) (word : Word) : Type 0 where
   pub to_server : new.to_server ≡ rings_with old.to_server channel word
   pub to_client : new.to_client ≡ old.to_client
   pub journal : new.journal ≡ with_taken old.journal channel conn stream word

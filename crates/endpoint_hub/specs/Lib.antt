@@ -1,5 +1,6 @@
+pub mod CycleLemmas
+pub mod Entries
 pub mod Holdings
-pub mod OneRing
+pub mod HubCycle
 pub mod RingLemmas
-pub mod Rings
 pub mod Runs

@@ -1,21 +1,26 @@
 -- One channel's ring, and one channel's part of the journal, at a change of any channel.
-use Rattle.std.proofs.Common.{◌≡◌, ◌≢◌, ℕ, zero, suc, ◌+◌, ◌<◌, inl, inr, true, false, eqb, cond, Some, None, List, [], ◌∷◌, ◌++◌, length, drop, replicate, slice_get, refl, sym, ap, ◌∙◌, append_assoc, arith}
+use Rattle.std.proofs.Common.{◌≡◌, ◌≢◌, ℕ, zero, suc, ◌+◌, ◌<◌, inl, inr, true, false, eqb, cond, Some, None, List, [], ◌∷◌, ◌++◌, length, map, drop, replicate, slice_get, refl, sym, ap, ◌∙◌, arith}
 use Rattle.std.proofs.lemmas.List.{append-nil, get_or-set_same, get_or-set_other, get_or_past, length-set}
 use Rattle.std.proofs.lemmas.Bool.{cases_lt, eq-eqb, ne_eqb}
 use Rattle.std.proofs.lemmas.Bool.Decides.{eqb_tells}
 use Rattle.endpoint_hub.specs.declared.journal.Taken.{Taken}
 use Rattle.endpoint_hub.specs.declared.journal.Handed.{Handed}
-use Rattle.endpoint_hub.specs.Rings.{ring_at, front_of, rings_with, rings_without_front}
-use Rattle.endpoint_hub.specs.Runs.{only, words_taken, times_handed}
+use Rattle.cycle_rules.specs.OrderLemmas.{map-append'}
+use Rattle.cycle_rules.specs.Puts.{words_on}
+use Rattle.cycle_rules.specs.PutsLemmas.{words_on-append}
+use Rattle.cycle_rules.specs.Rings.{ring_at, front_of, rings_with, rings_without_front}
+use Rattle.cycle_rules.specs.declared.transfer.Transfer.{Transfer}
+use Rattle.endpoint_hub.specs.Entries.{transfer_of, words_noted}
+use Rattle.endpoint_hub.specs.Runs.{only, times_handed}
 use Rattle.esi_base.specs.declared.word.Word.{Word}
 
 -- at the channel itself, `only` is the word
 only_same : (c d : ℕ) (w : Word) → c ≡ d → only c d w ≡ w ∷ []
-only_same c d w e = ap (λ b. cond b (w ∷ []) []) (eq-eqb c d e)
+only_same c d w e = ap (λ b. cond b (w ∷ []) []) (eq-eqb d c (sym e))
 
 -- at another channel, `only` is nothing
 only_other : (c d : ℕ) (w : Word) → c ≢ d → only c d w ≡ []
-only_other c d w ne = ap (λ b. cond b (w ∷ []) []) (ne_eqb c d ne)
+only_other c d w ne = ap (λ b. cond b (w ∷ []) []) (ne_eqb d c (λ e. ne (sym e)))
 
 -- a word that joins a ring stands at its end, and all other rings stay
 pub ring_at-rings_with : (rings : List (List Word)) (c d : ℕ) (w : Word) → d < length rings → ring_at (rings_with rings d w) c ≡ ring_at rings c ++ only c d w
@@ -53,14 +58,17 @@ ring_at-replicate (suc n) zero = refl
 ring_at-replicate (suc n) (suc c) = ring_at-replicate n c
 
 -- a value noted last as taken is the last of its channel's
-pub words_taken-push : (c : ℕ) (xs : List Taken) (x : Taken) → words_taken c (xs ++ x ∷ []) ≡ words_taken c xs ++ only c x.channel x.word
-words_taken-push c [] x = append-nil (only c x.channel x.word)
-words_taken-push c (y ∷ xs) x =
-    ap (λ ws. only c y.channel y.word ++ ws) (words_taken-push c xs x) ∙ sym (append_assoc (only c y.channel y.word) (words_taken c xs) (only c x.channel x.word))
+noted-one : (c : ℕ) (x : Taken) → words_noted c (x ∷ []) ≡ only c x.channel x.word
+noted-one c x =
+    elim (eqb x.channel c) as (λ b. map (λ (t : Transfer). t.word) (cond b (transfer_of x ∷ []) []) ≡ cond b (x.word ∷ []) []) [ true ↦ refl | false ↦ refl ]
+
+pub words_noted-push : (c : ℕ) (xs : List Taken) (x : Taken) → words_noted c (xs ++ x ∷ []) ≡ words_noted c xs ++ only c x.channel x.word
+words_noted-push c xs x =
+    ap (words_on c) (map-append' transfer_of xs (x ∷ [])) ∙ (words_on-append c (map transfer_of xs) (transfer_of x ∷ []) ∙ ap (λ ws. words_noted c xs ++ ws) (noted-one c x))
 
 -- `only` has one word or none
-length-only : (c d : ℕ) (w : Word) → length (only c d w) ≡ cond (eqb c d) 1 0
-length-only c d w = elim (eqb c d) as (λ b. length (cond b (w ∷ []) []) ≡ cond b 1 0) [ true ↦ refl | false ↦ refl ]
+length-only : (c d : ℕ) (w : Word) → length (only c d w) ≡ cond (eqb d c) 1 0
+length-only c d w = elim (eqb d c) as (λ b. length (cond b (w ∷ []) []) ≡ cond b 1 0) [ true ↦ refl | false ↦ refl ]
 
 -- a value noted last as handed is one more of its channel's
 pub times_handed-push : (c : ℕ) (xs : List Handed) (x : Handed) (w : Word) → times_handed c (xs ++ x ∷ []) ≡ times_handed c xs + length (only c x.channel w)

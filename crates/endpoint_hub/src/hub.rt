@@ -1,29 +1,39 @@
 //! The rings of all channels and the journal.
-ghost use Rattle.std.specs.Prelude.{◌≡◌, ◌↔◌, ◌+◌, ◌-◌, ◌^◌, ◌<◌, ◌≤◌, [], length, replicate, nat_lt, IfOk, OnOk, OnErr, IsErrOf, IsTrue, OnSome, IfNone};
-ghost use Rattle.endpoint_hub.specs.Rings.{ring_at, front_of};
-ghost use Rattle.endpoint_hub.specs.Holdings.{IsNew, Puts, Pops, Pushes, Hands, BeginsCycle};
+ghost use Rattle.std.specs.Prelude.{◌≡◌, ◌↔◌, ◌+◌, ◌-◌, ◌^◌, ◌<◌, ◌≤◌, [], length, replicate, IfOk, OnOk, OnErr, IsErrOf, IsTrue, OnSome, IfNone};
+ghost use Rattle.cycle_rules.specs.Rings.{has_room, ring_at, front_of};
+ghost use Rattle.endpoint_hub.specs.declared.hub.PutStop.TheVariants.{NoMemory as put_no_memory};
+ghost use Rattle.endpoint_hub.specs.Holdings.{IsNew, Takes, Pops, Pushes, Hands, BeginsCycle};
 
 use crate::journal::{Handed, Journal, Taken};
-use crate::limits::{RING_VALUES, SESSION_VALUES, SIDE_CHANNELS};
+use crate::limits::SIDE_CHANNELS;
 use crate::ring::Ring;
+use cycle_rules::{RING_VALUES, SESSION_VALUES};
 use esi_base::{List, NoMemory, Word};
 use std::alloc::Global;
 use std::marker::Model;
 
-/// Why a value was not put.
+/// Why a value was not taken.
 #[derive(Clone, Copy, Debug, PartialEq, Eq)]
 pub enum PutStop {
     /// The session has taken as many values as it ever takes.
     SessionFull,
     /// The channel's ring is full.
     NoRoom,
-    /// Memory could not be had.
+    /// Out of memory.
     NoMemory,
 }
 
-/// The rings of all channels, a side each for the values that go to the netlist and for those that
-/// come from it, and the journal. Contracts see each ring as the list of the words in it, first the
-/// one that came first.
+impl From<NoMemory> for PutStop {
+    ghost from_gives = { λ _ e. e ≡ put_no_memory };
+
+    fn from(_error: NoMemory) -> PutStop {
+        PutStop::NoMemory
+    }
+}
+
+/// The rings of all channels, a side each for the values that go to the circuit and for those that
+/// come from it, and the journal. Contracts see each ring as the list of the words in it, the oldest
+/// first.
 #[derive(Drop)]
 pub struct Hub {
     to_server: Vec<Ring>,
@@ -34,7 +44,8 @@ pub struct Hub {
 impl Model for Hub {
     ghost use Rattle.std.specs.Prelude.{◌≤◌, length};
     ghost use Rattle.endpoint_hub.specs.Holdings.{Holdings};
-    ghost use Rattle.endpoint_hub.specs.declared.limits.TheConstants.{SESSION_VALUES, SIDE_CHANNELS};
+    ghost use Rattle.cycle_rules.specs.declared.limits.TheConstants.{SESSION_VALUES};
+    ghost use Rattle.endpoint_hub.specs.declared.limits.TheConstants.{SIDE_CHANNELS};
 
     ghost Value = { Holdings };
 
@@ -63,13 +74,13 @@ impl Hub {
         })
     }
 
-    /// Takes a value for a to-server channel that the hub has: the value joins the end of its ring,
-    /// and the journal notes it with the cycle that runs, its connection and its stream. A value that
-    /// is refused changes nothing. Memory is asked for only where the session and the ring have a
-    /// place.
+    /// Takes a value into the ring of a to-server channel that the hub has: it joins the end of the
+    /// ring, and the journal notes it with the cycle that runs, its connection and its stream. A value
+    /// that is refused changes nothing. Memory is taken only where the session and the ring have room
+    /// for the value.
     pub fn put(&mut self, channel: u32, conn: u32, stream: u32, word: Word) -> Result<(), PutStop>
         requires { channel < length self.old.to_server }
-        ensures put { OnOk result (Puts self.old self.new channel conn stream word) }
+        ensures taken { OnOk result (Takes self.old self.new channel conn stream word) }
         ensures session_room { OnOk result (length self.old.journal.taken < SESSION_VALUES) }
         ensures room { OnOk result (length (ring_at self.old.to_server channel) < RING_VALUES) }
         ensures session_full { IsErrOf result PutStop.SessionFull
@@ -97,15 +108,13 @@ impl Hub {
             stream,
             word,
         };
-        if self.journal.taken.push(taken).is_err() {
-            return Err(PutStop::NoMemory);
-        }
+        self.journal.taken.add(taken)?;
         ring.push(word);
         Ok(())
     }
 
-    /// The word that stands first in the ring of a to-server channel that the hub has; None exactly
-    /// where the ring is empty. It takes no memory.
+    /// The oldest word in the ring of a to-server channel that the hub has; None exactly where the ring
+    /// is empty. It takes no memory.
     pub fn front(&self, channel: u32) -> Option<Word>
         requires { channel < length self.now.to_server }
         ensures word { result ≡ front_of self.now.to_server channel }
@@ -114,8 +123,8 @@ impl Hub {
         self.to_server[channel as usize].front()
     }
 
-    /// Takes the word that stands first out of the ring of a to-server channel, which is not empty.
-    /// It takes no memory.
+    /// Removes the oldest word from the ring of a to-server channel, which is not empty. It takes no
+    /// memory.
     pub fn pop(&mut self, channel: u32)
         requires channel { channel < length self.old.to_server }
         requires word { 0 < length (ring_at self.old.to_server channel) }
@@ -129,7 +138,7 @@ impl Hub {
     /// takes no memory.
     pub fn has_room(&self, channel: u32) -> bool
         requires { channel < length self.now.to_client }
-        ensures room { result ≡ nat_lt (length (ring_at self.now.to_client channel)) RING_VALUES }
+        ensures room { result ≡ has_room (ring_at self.now.to_client channel) }
         ensures within { length (ring_at self.now.to_client channel) ≤ RING_VALUES }
     {
         self.to_client[channel as usize].len() < RING_VALUES
@@ -145,9 +154,9 @@ impl Hub {
         ring.push(word);
     }
 
-    /// Hands out the word that stands first in the ring of a to-client channel that the hub has, and
-    /// notes it with the cycle that runs; None exactly where the ring is empty. Memory is asked for
-    /// only where a word stands in the ring.
+    /// Hands out the oldest word in the ring of a to-client channel that the hub has, and notes it with
+    /// the cycle that runs; None exactly where the ring is empty. Memory is taken only where a word
+    /// stands in the ring.
     pub fn hand(&mut self, channel: u32) -> Result<Option<Word>, NoMemory>
         requires { channel < length self.old.to_client }
         ensures word { IfOk result (λ word. word ≡ front_of self.old.to_client channel) }
@@ -161,9 +170,7 @@ impl Hub {
             return Ok(None);
         }
         let cycle = self.journal.cycles;
-        if self.journal.handed.push(Handed { cycle, channel }).is_err() {
-            return Err(NoMemory);
-        }
+        self.journal.handed.add(Handed { cycle, channel })?;
         Ok(ring.pop())
     }
 

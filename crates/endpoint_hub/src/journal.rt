@@ -1,4 +1,4 @@
-//! What a session notes, and what is told of it at its end.
+//! What a session notes, and what it reports at its end.
 use esi_base::{List, Word};
 
 /// A value that was taken from a client for a to-server channel.
@@ -49,7 +49,7 @@ pub struct Journal {
     pub attached: List<Attachment>,
 }
 
-/// What a session tells at its end: its journal and the contents of the registers.
+/// What a session reports at its end: its journal and the contents of the registers.
 #[derive(Debug, Drop)]
 pub struct Report {
     /// How many cycles were run.

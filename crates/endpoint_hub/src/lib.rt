@@ -1,4 +1,5 @@
-//! The rings between the endpoints of a design and its netlist, and the journal of a session.
+//! The rings between the endpoints of a design and its circuit, the journal of a session, and what a
+//! cycle does to both.
 #![tactic(auto)]
 
 mod hub;
@@ -6,10 +7,9 @@ mod journal;
 mod laws;
 mod limits;
 mod ring;
-#[cfg(test)]
-mod tests;
 
+pub use cycle_rules::{RING_VALUES, SESSION_VALUES};
 pub use hub::{Hub, PutStop};
 pub use journal::{Attachment, Handed, Journal, Report, Taken};
-pub use laws::{new_rings_law, rings_law};
-pub use limits::{RING_VALUES, SESSION_VALUES, SIDE_CHANNELS};
+pub use laws::{cycle_law, new_rings_law, rings_law};
+pub use limits::SIDE_CHANNELS;

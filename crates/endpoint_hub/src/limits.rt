@@ -1,10 +1,6 @@
-//! How much a session holds.
+//! How many channels a hub has.
 
-/// How many words a ring holds at most.
-pub const RING_VALUES: usize = 16;
-
-/// How many values a session takes at most.
-pub const SESSION_VALUES: usize = 1_048_576;
-
-/// How many channels each side has at most.
+/// How many channels each side has at most. It bounds the rings that a design makes a session hold.
 pub const SIDE_CHANNELS: u32 = 32;
+
+const _: () = prove!(SIDE_CHANNELS == 32);

@@ -1,13 +1,13 @@
 //! A ring of words, which contracts see as the list of the words in it.
 ghost use Rattle.std.specs.Prelude.{◌≡◌, ◌<◌, ◌≤◌, ◌++◌, ◌∷◌, [], length, drop, slice_get, IfOk};
 
-use crate::limits::RING_VALUES;
 use circular_buffer::HeapCircularBuffer;
+use cycle_rules::RING_VALUES;
 use esi_base::Word;
 use std::alloc::{AllocError, Global};
 use std::marker::Model;
 
-/// The words that wait between an endpoint and the netlist, at most `RING_VALUES`.
+/// The words that stand between an endpoint and the circuit, at most `RING_VALUES`.
 #[derive(Drop)]
 pub struct Ring {
     words: HeapCircularBuffer<Word>,
@@ -15,7 +15,7 @@ pub struct Ring {
 
 impl Model for Ring {
     ghost use Rattle.std.specs.Prelude.{◌≡◌, ◌≤◌, List, Bool, length};
-    ghost use Rattle.endpoint_hub.specs.declared.limits.TheConstants.{RING_VALUES};
+    ghost use Rattle.cycle_rules.specs.declared.limits.TheConstants.{RING_VALUES};
 
     ghost Value = { List (List Bool) };
 
@@ -50,7 +50,7 @@ impl Ring {
         self.words.front().copied()
     }
 
-    /// Adds a word behind the others.
+    /// Adds a word after the others.
     pub fn push(&mut self, word: Word)
         requires { length self.old < RING_VALUES }
         ensures { self.new ≡ self.old ++ word ∷ [] }

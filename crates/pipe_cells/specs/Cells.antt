@@ -1,6 +1,6 @@
--- A pipe as a row of cells, each with at most two words, its oldest first. All transfers of a cycle are judged on the cells
--- as they were.
-use Rattle.std.specs.Prelude.{nat_lt, Bool, false, if◌then◌else◌, List, [], ◌∷◌, ◌++◌, length, drop, Option, None, option_to_list}
+-- A pipe as a row of cells, each with at most two words, its oldest first. All transfers of a cycle depend on the cells as they
+-- were before it.
+use Rattle.std.specs.Prelude.{nat_lt, Bool, false, if◌then◌else◌, List, [], ◌∷◌, ◌++◌, length, drop, Option, None, option_to_list, refl}
 use Rattle.cycle_rules.specs.Circuit.{Bits, Circuit}
 use Rattle.cycle_rules.specs.Lists.{first}
 
@@ -8,7 +8,7 @@ use Rattle.cycle_rules.specs.Lists.{first}
 abbrev pub is_ready : List Bits → Bool
 is_ready cell = nat_lt (length cell) 2
 
--- whether what stands behind takes a word: the next cell, or behind the last one the room in the ring
+-- whether what follows takes a word: the next cell, or after the last one the ring, where it has room
 abbrev pub next_ready : List (List Bits) → Bool → Bool
 next_ready [] room = room
 next_ready (cell ∷ cells) room = is_ready cell
@@ -18,7 +18,7 @@ abbrev pub word_out : Option Bits → List (List Bits) → Option Bits
 word_out offered [] = offered
 word_out offered (cell ∷ cells) = word_out (first cell) cells
 
--- a cell after a cycle: without its first word where what stands behind takes it, and with the word offered to it where it is ready
+-- a cell after a cycle: without its first word where what follows takes it, and with the word offered to it where it is ready
 abbrev pub cell_after : Option Bits → List Bits → Bool → List Bits
 cell_after offered cell gives = (if gives then drop 1 cell else cell) ++ (if is_ready cell then option_to_list offered else [])
 
@@ -39,9 +39,13 @@ only_room (room ∷ rooms) = room
 -- the row as a circuit of one channel each way
 abbrev pub pipe_circuit : Circuit (List (List Bits))
 pipe_circuit = record {
+  to_server_count = 1;
+  to_client_count = 1;
   readies = λ cells offers rooms. next_ready cells (only_room rooms) ∷ [];
   words = λ cells offers rooms. word_out (only_offer offers) cells ∷ [];
   next = λ cells offers rooms. row_after (only_offer offers) cells (only_room rooms);
+  all_readies = λ cells offers rooms offered roomy. refl;
+  all_words = λ cells offers rooms offered roomy. refl;
 }
 
 -- the words in the row, the oldest first: those of the last cell come first

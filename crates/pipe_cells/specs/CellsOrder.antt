@@ -4,12 +4,8 @@ use Rattle.std.proofs.Common.{sym, ◌∙◌, ap, append_assoc}
 use Rattle.cycle_rules.specs.Circuit.{Bits}
 use Rattle.cycle_rules.specs.Lists.{first}
 use Rattle.cycle_rules.specs.Order.{KeepsOrder}
-use Rattle.cycle_rules.specs.OrderLemmas.{first_taken}
+use Rattle.cycle_rules.specs.OrderLemmas.{append_nil, first_taken}
 use Rattle.pipe_cells.specs.Cells.{is_ready, next_ready, word_out, row_after, pipe_circuit, words_in}
-
-append_nil : {A : Type 0} (xs : List A) → xs ++ [] ≡ xs
-append_nil [] = refl
-append_nil (x ∷ xs) = ap (λ ys. x ∷ ys) (append_nil xs)
 
 -- The other cells' words, this cell's, what it takes, what comes out of the row, the other cells' words then, what this cell
 -- gives and what is left in it.

@@ -1,7 +1,7 @@
 pub mod CellWords
 pub mod Cells
-pub mod CellsOrder
 pub mod CellsLast
-pub mod Ported
+pub mod CellsOrder
+pub mod PipeRings
+pub mod PipeRun
 pub mod TakesLemmas
-pub mod Simulated

@@ -5,7 +5,5 @@ mod cell;
 mod pipe;
 mod ports;
 mod row;
-#[cfg(test)]
-mod tests;
 
 pub use pipe::{Pipe, simulate};

@@ -1,19 +1,19 @@
 //! The simulation of a pipe: values wait, enter the row of cells through a ring, and leave it through
 //! another.
 ghost use Rattle.std.specs.Prelude.{◌≡◌, ◌+◌, ◌-◌, ◌^◌, ◌<◌, ◌≤◌, replicate, length, [], IfOk};
-ghost use Rattle.cycle_rules.specs.Stimulated.{cycled, cycled_by, stepped, stimulated, cycles_in, cycles_of_step};
+ghost use Rattle.cycle_rules.specs.Simulation.{after_cycle, after_cycles, after_action, after_actions, cycles_in, cycles_of_action};
 ghost use Rattle.cycle_rules.specs.Lists.{first};
-ghost use Rattle.cycle_rules.specs.One.{simulation_of, started};
-ghost use Rattle.cycle_rules.specs.Kept.{TakesInOrder};
+ghost use Rattle.cycle_rules.specs.PipeSimulation.{simulation_of, at_start};
+ghost use Rattle.cycle_rules.specs.Puts.{TakesInOrder};
 ghost use Rattle.cycle_rules.specs.Order.{HandsInOrder};
 ghost use Rattle.pipe_cells.specs.Cells.{pipe_circuit};
-ghost use Rattle.pipe_cells.specs.Simulated.{simulated};
-ghost use Rattle.pipe_cells.specs.Ported.{Takes, Transfers};
+ghost use Rattle.pipe_cells.specs.PipeRun.{pipe_run};
+ghost use Rattle.pipe_cells.specs.PipeRings.{TakesAll, Transfers};
 
 use crate::cell::Cell;
 use crate::ports::Ports;
 use crate::row::{is_ready_at, pass, word_from};
-use cycle_rules::{Drive, Moved};
+use cycle_rules::{Action, Transfer};
 use esi_base::{NoMemory, Word};
 use std::alloc::Global;
 use std::collections::VecDeque;
@@ -23,8 +23,8 @@ use std::marker::Model;
 const CHANNEL: u32 = 0;
 
 /// A pipe that is simulated. Contracts see what waits, what the rings and the cells hold, the cycles
-/// that ended, and the values taken and handed, as the simulation of one channel each way. After want
-/// of memory it is not used again.
+/// that ended, and the values taken and handed, as the simulation of one channel each way. After it ran
+/// out of memory it is not used again.
 #[derive(Drop)]
 pub struct Pipe {
     waiting: VecDeque<Word>,
@@ -37,9 +37,9 @@ pub struct Pipe {
 impl Model for Pipe {
     ghost use Rattle.std.specs.Prelude.{List, Bool, true};
     ghost use Rattle.cycle_rules.specs.Lists.{first};
-    ghost use Rattle.cycle_rules.specs.One.{One};
+    ghost use Rattle.cycle_rules.specs.PipeSimulation.{PipeSimulation};
 
-    ghost Value = { One (List (List (List Bool))) };
+    ghost Value = { PipeSimulation (List (List (List Bool))) };
 
     ghost view = { λ p. record { waiting = p.waiting.items; entering = p.ports.entering; state = p.cells.items; leaving = p.ports.leaving; switch = p.is_on; cycles = p.ports.cycles; taken = p.ports.taken; handed = p.ports.handed } };
 }
@@ -47,7 +47,7 @@ impl Model for Pipe {
 impl Pipe {
     /// A pipe of so many empty cells, with nothing in its rings, before the first cycle.
     pub fn new(alloc: Global, stages: u32) -> Result<Pipe, NoMemory>
-        ensures { IfOk result (λ pipe. pipe ≡ started (replicate stages [])) }
+        ensures { IfOk result (λ pipe. pipe ≡ at_start (replicate stages [])) }
     {
         Ok(Pipe {
             waiting: VecDeque::new(alloc),
@@ -57,13 +57,13 @@ impl Pipe {
         })
     }
 
-    /// Runs the steps in order.
-    pub fn run(&mut self, steps: &[Drive]) -> Result<(), NoMemory>
-        requires { self.old.cycles + cycles_in steps.now < 2 ^ 64 }
-        ensures { IfOk result (λ _. simulation_of self.new ≡ stimulated pipe_circuit steps.now (simulation_of self.old)) }
+    /// Runs the actions in order.
+    pub fn run(&mut self, actions: &[Action]) -> Result<(), NoMemory>
+        requires { self.old.cycles + cycles_in actions.now < 2 ^ 64 }
+        ensures { IfOk result (λ _. simulation_of self.new ≡ after_actions pipe_circuit actions.now (simulation_of self.old)) }
     {
-        for step in steps {
-            self.step(step)?;
+        for action in actions {
+            self.act(action)?;
         }
         Ok(())
     }
@@ -83,30 +83,30 @@ impl Pipe {
     }
 
     /// The values that were handed, in order.
-    pub fn handed(&self) -> &[Moved]
+    pub fn handed(&self) -> &[Transfer]
         ensures { result.now ≡ self.now.handed }
     {
         self.ports.handed()
     }
 
-    fn step(&mut self, step: &Drive) -> Result<(), NoMemory>
-        requires { self.old.cycles + cycles_of_step step.now < 2 ^ 64 }
-        ensures stepped { IfOk result (λ _. simulation_of self.new ≡ stepped pipe_circuit step.now (simulation_of self.old)) }
-        ensures cycles { IfOk result (λ _. self.new.cycles ≡ self.old.cycles + cycles_of_step step.now) }
+    fn act(&mut self, action: &Action) -> Result<(), NoMemory>
+        requires { self.old.cycles + cycles_of_action action.now < 2 ^ 64 }
+        ensures after_action { IfOk result (λ _. simulation_of self.new ≡ after_action pipe_circuit action.now (simulation_of self.old)) }
+        ensures cycles { IfOk result (λ _. self.new.cycles ≡ self.old.cycles + cycles_of_action action.now) }
     {
-        match step {
-            Drive::Put { channel, word } => self.put(*channel, *word),
-            Drive::Ready { channel, on } => {
+        match action {
+            Action::Put { channel, word } => self.put(*channel, *word),
+            Action::Ready { channel, on } => {
                 self.set_switch(*channel, *on);
                 Ok(())
             }
-            Drive::Run { cycles } => self.cycles(*cycles),
+            Action::Run { cycles } => self.cycles(*cycles),
         }
     }
 
     fn put(&mut self, channel: u32, word: Word) -> Result<(), NoMemory>
         ensures cycles { IfOk result (λ _. self.new.cycles ≡ self.old.cycles) }
-        ensures put { IfOk result (λ _. simulation_of self.new ≡ stepped pipe_circuit (Drive.Put channel word) (simulation_of self.old)) }
+        ensures put { IfOk result (λ _. simulation_of self.new ≡ after_action pipe_circuit (Action.Put channel word) (simulation_of self.old)) }
     {
         if channel == CHANNEL {
             self.waiting.push_back(word)?;
@@ -116,7 +116,7 @@ impl Pipe {
 
     fn set_switch(&mut self, channel: u32, on: bool)
         ensures cycles { self.new.cycles ≡ self.old.cycles }
-        ensures set { simulation_of self.new ≡ stepped pipe_circuit (Drive.Ready channel on) (simulation_of self.old) }
+        ensures set { simulation_of self.new ≡ after_action pipe_circuit (Action.Ready channel on) (simulation_of self.old) }
     {
         if channel == CHANNEL {
             self.is_on = on;
@@ -126,7 +126,7 @@ impl Pipe {
     fn cycles(&mut self, count: u32) -> Result<(), NoMemory>
         requires { self.old.cycles + count < 2 ^ 64 }
         ensures cycles { IfOk result (λ _. self.new.cycles ≡ self.old.cycles + count) }
-        ensures cycled { IfOk result (λ _. simulation_of self.new ≡ cycled_by pipe_circuit count (simulation_of self.old)) }
+        ensures after_cycle { IfOk result (λ _. simulation_of self.new ≡ after_cycles pipe_circuit count (simulation_of self.old)) }
     {
         for turn in 0..count {
             self.cycle()?;
@@ -138,7 +138,7 @@ impl Pipe {
     fn cycle(&mut self) -> Result<(), NoMemory>
         requires { self.old.cycles < 2 ^ 64 - 1 }
         ensures cycles { IfOk result (λ _. self.new.cycles ≡ self.old.cycles + 1) }
-        ensures cycled { IfOk result (λ _. simulation_of self.new ≡ cycled pipe_circuit (simulation_of self.old)) }
+        ensures after_cycle { IfOk result (λ _. simulation_of self.new ≡ after_cycle pipe_circuit (simulation_of self.old)) }
     {
         take_values(&mut self.waiting, &mut self.ports)?;
         transfer(&mut self.ports, &mut self.cells);
@@ -148,17 +148,17 @@ impl Pipe {
     }
 }
 
-/// Simulates a pipe of so many stages, from empty, by these steps, which run fewer than 2^64 cycles in
-/// all. What it hands out is a front of what it took, and what it took is a front of what was put on
-/// its channel, 0.
-pub fn simulate(alloc: Global, stages: u32, steps: &[Drive]) -> Result<Pipe, NoMemory>
-    requires { cycles_in steps.now < 2 ^ 64 }
-    ensures simulated { IfOk result (λ pipe. simulation_of pipe ≡ simulated stages steps.now) }
+/// Simulates a pipe of so many stages, from empty, by these actions, which run fewer than 2^64 cycles in
+/// all. What it hands out is a prefix of what it took, and what it took is a prefix of what was put on
+/// its channel, 0. It fails only when it runs out of memory.
+pub fn simulate(alloc: Global, stages: u32, actions: &[Action]) -> Result<Pipe, NoMemory>
+    requires { cycles_in actions.now < 2 ^ 64 }
+    ensures run { IfOk result (λ pipe. simulation_of pipe ≡ pipe_run stages actions.now) }
     ensures in_order { IfOk result (λ pipe. HandsInOrder (simulation_of pipe)) }
-    ensures taken_in_order { IfOk result (λ pipe. TakesInOrder 0 steps.now (simulation_of pipe)) }
+    ensures taken_in_order { IfOk result (λ pipe. TakesInOrder 0 actions.now (simulation_of pipe)) }
 {
     let mut pipe = Pipe::new(alloc, stages)?;
-    pipe.run(steps)?;
+    pipe.run(actions)?;
     Ok(pipe)
 }
 
@@ -173,9 +173,9 @@ fn empty_cells(alloc: Global, count: u32) -> Result<Vec<Cell>, NoMemory>
     Ok(cells)
 }
 
-/// Takes the waiting values, first come first, while the ring and the session have a place.
+/// Takes the waiting values, first come first, while the session and the ring have room.
 fn take_values(waiting: &mut VecDeque<Word>, ports: &mut Ports) -> Result<(), NoMemory>
-    ensures { IfOk result (λ _. Takes waiting.old.items ports.old waiting.new.items ports.new) }
+    ensures { IfOk result (λ _. TakesAll waiting.old.items ports.old waiting.new.items ports.new) }
 {
     while let Some(word) = first_waiting(waiting) {
         if !ports.put(word)? {
@@ -193,7 +193,7 @@ fn first_waiting(waiting: &VecDeque<Word>) -> Option<Word>
     waiting.front().copied()
 }
 
-/// All transfers of a cycle, judged on the rings and the cells as they were.
+/// All transfers of a cycle, which depend on the rings and the cells as they were before it.
 fn transfer(ports: &mut Ports, cells: &mut [Cell])
     ensures { Transfers ports.old cells.old ports.new cells.new }
 {

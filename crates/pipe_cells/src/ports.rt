@@ -1,10 +1,10 @@
 //! The rings of a pipe, one each way, over a hub.
-ghost use Rattle.std.specs.Prelude.{◌≡◌, ◌+◌, ◌-◌, ◌^◌, ◌<◌, [], ◌∷◌, nat_lt, length, true, false, if◌then◌else◌, IfOk, OnErr, IsErrOf};
+ghost use Rattle.std.specs.Prelude.{◌≡◌, ◌+◌, ◌-◌, ◌^◌, ◌<◌, [], ◌∷◌, length, true, false, if◌then◌else◌, IfOk, OnErr, IsErrOf};
 ghost use Rattle.cycle_rules.specs.Lists.{first};
-ghost use Rattle.cycle_rules.specs.Cycle.{ring_size};
-ghost use Rattle.pipe_cells.specs.Ported.{has_place, with_value, with_taken, with_word, with_hand, with_cycle};
+ghost use Rattle.cycle_rules.specs.Rings.{has_room};
+ghost use Rattle.pipe_cells.specs.PipeRings.{may_take, with_take, with_pop, with_push, with_hand, with_cycle};
 
-use cycle_rules::Moved;
+use cycle_rules::Transfer;
 use endpoint_hub::{Hub, PutStop};
 use esi_base::{List, NoMemory, Word};
 use std::alloc::Global;
@@ -13,32 +13,33 @@ use std::marker::Model;
 /// The number of the one channel on each side.
 const CHANNEL: u32 = 0;
 
-/// The rings of a pipe and what moved through them. Contracts see the values in each ring, the oldest
+/// The rings of a pipe and what was taken and handed through them. Contracts see the values in each ring, the oldest
 /// first, the cycles that ended, and the values taken and handed.
 #[derive(Drop)]
 pub struct Ports {
     hub: Hub,
-    handed: List<Moved>,
+    handed: List<Transfer>,
 }
 
 impl Model for Ports {
     ghost use Rattle.std.specs.Prelude.{◌≡◌, map, length};
-    ghost use Rattle.endpoint_hub.specs.Rings.{ring_at};
-    ghost use Rattle.pipe_cells.specs.Ported.{Ported, moved_of};
+    ghost use Rattle.cycle_rules.specs.Rings.{ring_at};
+    ghost use Rattle.endpoint_hub.specs.Entries.{transfer_of};
+    ghost use Rattle.pipe_cells.specs.PipeRings.{PipeRings};
 
-    ghost Value = { Ported };
+    ghost Value = { PipeRings };
 
-    ghost view = { λ p. record { entering = ring_at p.hub.to_server 0; leaving = ring_at p.hub.to_client 0; cycles = p.hub.journal.cycles; taken = map moved_of p.hub.journal.taken; handed = p.handed } };
+    ghost view = { λ p. record { entering = ring_at p.hub.to_server 0; leaving = ring_at p.hub.to_client 0; cycles = p.hub.journal.cycles; taken = map transfer_of p.hub.journal.taken; handed = p.handed } };
 
     ghost invariant = { λ p. (length p.hub.to_server ≡ 1) × (length p.hub.to_client ≡ 1) };
 }
 
 impl Ports {
-    ghost use Rattle.pipe_cells.specs.Ported.{no_ports};
+    ghost use Rattle.pipe_cells.specs.PipeRings.{new_rings};
 
     /// Rings with nothing in them, before the first cycle.
     pub fn new(alloc: Global) -> Result<Ports, NoMemory>
-        ensures { IfOk result (λ ports. ports ≡ no_ports) }
+        ensures { IfOk result (λ ports. ports ≡ new_rings) }
     {
         Ok(Ports {
             hub: Hub::new(alloc, 1, 1)?,
@@ -46,12 +47,12 @@ impl Ports {
         })
     }
 
-    /// Takes a value, if the ring and the session have a place for it, and says whether they had.
-    /// Memory is asked for only where they have, and where it cannot be had nothing changes.
+    /// Takes a value, if the session and the ring have room for it, and says whether they had. Memory is
+    /// taken only where they have; where it runs out, nothing changes.
     pub fn put(&mut self, word: Word) -> Result<bool, NoMemory>
-        ensures place { IfOk result (λ was_put. was_put ≡ has_place self.old) }
-        ensures put { IfOk result (λ was_put. self.new ≡ (if was_put then with_value self.old word else self.old)) }
-        ensures no_memory { OnErr result (has_place self.old ≡ true) }
+        ensures room { IfOk result (λ was_taken. was_taken ≡ may_take self.old) }
+        ensures taken { IfOk result (λ was_taken. self.new ≡ (if was_taken then with_take self.old word else self.old)) }
+        ensures no_memory { OnErr result (may_take self.old ≡ true) }
         ensures refused { OnErr result (self.new ≡ self.old) }
     {
         match self.hub.put(CHANNEL, 0, 0, word) {
@@ -62,16 +63,16 @@ impl Ports {
         }
     }
 
-    /// The value that the ring on the way in offers.
+    /// The value that the ring on the way in offers: its oldest.
     pub fn front(&self) -> Option<Word>
         ensures { result ≡ first self.now.entering }
     {
         self.hub.front(CHANNEL)
     }
 
-    /// The front of the ring on the way in is gone where the circuit took it.
+    /// The ring on the way in loses its oldest value where the circuit takes it.
     pub fn leave(&mut self, ready: bool)
-        ensures { self.new ≡ with_taken self.old ready }
+        ensures { self.new ≡ with_pop self.old ready }
     {
         if ready && self.hub.front(CHANNEL).is_some() {
             self.hub.pop(CHANNEL);
@@ -80,14 +81,14 @@ impl Ports {
 
     /// Whether the ring on the way out has room.
     pub fn has_room(&self) -> bool
-        ensures { result ≡ nat_lt (length self.now.leaving) ring_size }
+        ensures { result ≡ has_room self.now.leaving }
     {
         self.hub.has_room(CHANNEL)
     }
 
     /// The word that the circuit offers, if it does, joins the ring on the way out where that has room.
     pub fn enter(&mut self, word: Option<Word>)
-        ensures { self.new ≡ with_word self.old word }
+        ensures { self.new ≡ with_push self.old word }
     {
         if let Some(word) = word
             && self.hub.has_room(CHANNEL)
@@ -96,8 +97,8 @@ impl Ports {
         }
     }
 
-    /// Hands out the front of the ring on the way out, if there is one and the switch is on. Memory is
-    /// asked for only there.
+    /// Hands out the oldest value of the ring on the way out, if there is one and the switch is on.
+    /// Memory is taken only there.
     pub fn hand(&mut self, is_on: bool) -> Result<(), NoMemory>
         ensures handed { IfOk result (λ _. self.new ≡ with_hand is_on self.old) }
         ensures no_memory_on { OnErr result (is_on ≡ true) }
@@ -109,21 +110,19 @@ impl Ports {
         Ok(())
     }
 
-    /// Hands out the front of the ring on the way out, if there is one.
+    /// Hands out the oldest value of the ring on the way out, if there is one.
     fn hand_front(&mut self) -> Result<(), NoMemory>
         ensures handed { IfOk result (λ _. self.new ≡ with_hand true self.old) }
         ensures no_memory { OnErr result (0 < length self.old.leaving) }
     {
         let cycle = self.hub.journal().cycles;
         if let Some(word) = self.hub.hand(CHANNEL)? {
-            let moved = Moved {
+            let transfer = Transfer {
                 cycle,
                 channel: CHANNEL,
                 word,
             };
-            if self.handed.push(moved).is_err() {
-                return Err(NoMemory);
-            }
+            self.handed.add(transfer)?;
         }
         Ok(())
     }
@@ -151,7 +150,7 @@ impl Ports {
     }
 
     /// The values that were handed, in order.
-    pub fn handed(&self) -> &[Moved]
+    pub fn handed(&self) -> &[Transfer]
         ensures { result.now ≡ self.now.handed }
     {
         self.handed.as_slice()

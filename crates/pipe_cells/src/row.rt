@@ -1,12 +1,12 @@
-//! A row of cells: all transfers of a cycle are judged on the cells as they were.
+//! A row of cells: all transfers of a cycle depend on the cells as they were before it.
 ghost use Rattle.std.specs.Prelude.{◌≡◌, ◌≤◌, length, drop};
 ghost use Rattle.pipe_cells.specs.Cells.{next_ready, word_out, row_after};
 
 use crate::cell::Cell;
 use esi_base::Word;
 
-/// Whether what stands at this place takes a word: the cell there, or past the last one the room in
-/// the ring behind the row.
+/// Whether what stands at this index takes a word: the cell there, or past the last one the ring after
+/// the row, where it has room.
 pub fn is_ready_at(cells: &[Cell], at: usize, room: bool) -> bool
     ensures { result ≡ next_ready (drop at cells.now) room }
 {
@@ -26,7 +26,7 @@ pub fn word_from(cells: &[Cell], offered: Option<Word>) -> Option<Word>
     }
 }
 
-/// The row after a cycle, in which it is offered a word or none, and there is room behind it or not.
+/// The row after a cycle, in which it is offered a word or none, and there is room after it or not.
 pub fn pass(cells: &mut [Cell], offered: Option<Word>, room: bool)
     ensures { cells.new ≡ row_after offered cells.old room }
 {

@@ -1,17 +1,18 @@
 use Rattle.std.proofs.Common.{◌∙◌, ◌++◌, ◌+◌, ap, sym, length, zero-add}
-use Rattle.endpoint_hub.specs.Rings.{ring_at}
-use Rattle.endpoint_hub.specs.Runs.{words_put, words_pushed, words_handed, words_taken, times_handed}
+use Rattle.cycle_rules.specs.Rings.{ring_at}
+use Rattle.endpoint_hub.specs.Entries.{words_noted}
+use Rattle.endpoint_hub.specs.Runs.{words_taken, words_pushed, words_handed, times_handed}
 use Rattle.endpoint_hub.specs.RingLemmas.{ring_at-replicate}
 use Rattle.endpoint_hub.proofs.RunLemmas.{accounted}
 use Rattle.endpoint_hub.proofs.laws.new_rings_law.Goals as goal
 
-pub returns-clause-put : goal.returns-clause-put
-returns-clause-put c = λ old new calls m n channel fresh run.
-    sym (ap (λ rings. ring_at rings channel ++ words_put channel calls) fresh.to_server ∙ ap (λ ring. ring ++ words_put channel calls) (ring_at-replicate m channel)) ∙ (accounted channel calls old new run).to_server
-
 pub returns-clause-taken : goal.returns-clause-taken
 returns-clause-taken c = λ old new calls m n channel fresh run.
-    (accounted channel calls old new run).taken ∙ (ap (λ j. words_taken channel j.taken ++ words_put channel calls) fresh.journal ∙ (sym (ap (λ rings. ring_at rings channel ++ words_put channel calls) fresh.to_server ∙ ap (λ ring. ring ++ words_put channel calls) (ring_at-replicate m channel)) ∙ (accounted channel calls old new run).to_server))
+    sym (ap (λ rings. ring_at rings channel ++ words_taken channel calls) fresh.to_server ∙ ap (λ ring. ring ++ words_taken channel calls) (ring_at-replicate m channel)) ∙ (accounted channel calls old new run).to_server
+
+pub returns-clause-noted : goal.returns-clause-noted
+returns-clause-noted c = λ old new calls m n channel fresh run.
+    (accounted channel calls old new run).taken ∙ (ap (λ j. words_noted channel j.taken ++ words_taken channel calls) fresh.journal ∙ (sym (ap (λ rings. ring_at rings channel ++ words_taken channel calls) fresh.to_server ∙ ap (λ ring. ring ++ words_taken channel calls) (ring_at-replicate m channel)) ∙ (accounted channel calls old new run).to_server))
 
 pub returns-clause-pushed : goal.returns-clause-pushed
 returns-clause-pushed c = λ old new calls m n channel fresh run.

@@ -1,5 +1,0 @@
-use Rattle.std.proofs.Common.{◌≡◌, length}
-use Rattle.endpoint_hub.proofs.tests.a_to_server_ring_takes_sixteen_values_in_order.Given as goal
-
-abbrev pub invariant-loop-value : goal.invariant-loop-value
-invariant-loop-value g l = length l.hub.to_server ≡ 1
