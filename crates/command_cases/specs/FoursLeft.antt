@@ -7,6 +7,6 @@ use Rattle.command_cases.specs.declared.fours.Fours.{Fours}
 abbrev pub fours_left : Fours → List ℕ
 fours_left fours = drop fours.given fours.text
 
--- the finish behind them
+-- the finish after them
 abbrev pub fours_finish : Fours → Finish
 fours_finish fours = fours.finish

@@ -4,14 +4,15 @@
 use Rattle.std.specs.Prelude.{ℕ, ◌==◌, nat_lt, Bool, true, false, List, [], ◌∷◌, ◌++◌, length, Option, Some, Result, Ok, Err, if◌then◌else◌, codes}
 use Rattle.endpoint_hub.specs.declared.journal.Report.{Report}
 use Rattle.command_runs.specs.Account.{Account}
-use Rattle.command_runs.specs.Work.{Doing, Work}
+use Rattle.command_runs.specs.Work.{Effects, Work}
 use Rattle.command_runs.specs.declared.finish.End.{End}
 use Rattle.command_runs.specs.declared.finish.End.TheVariants.{Done, LinkFault, PeerFault, PeerStatus, Unfinished, TurnsSpent}
 use Rattle.command_runs.specs.declared.finish.Finish.{Finish}
-use Rattle.command_runs.specs.declared.work.Blamed.{Blamed}
+use Rattle.command_runs.specs.declared.work.FileRefusal.{FileRefusal}
 use Rattle.command_runs.specs.declared.work.FileText.{FileText}
 use Rattle.command_runs.specs.declared.work.Suffix.TheVariants.{Verilog, Json}
 use Rattle.command_runs.specs.declared.work.Target.{Target}
+use Rattle.command_cases.specs.declared.small.TheConstants.{LONGEST_TEXT, TOO_LONG}
 
 -- `5`, `6`, `7` and `9` are the statuses, `s` is that of a channel, and every other octet is 0
 abbrev pub end_by : ℕ → End
@@ -48,21 +49,21 @@ manifest = record { word = 2; suffix = Json }
 abbrev pub files_of : List ℕ → List ℕ → List FileText
 files_of first second = (record { target = verilog; text = first }) ∷ (record { target = manifest; text = second }) ∷ []
 
-abbrev pub doing_by : List ℕ → List ℕ → Doing
-doing_by first second = record { written = files_of first second; lines = first ++ second; finish = finish_of second }
+abbrev pub effects_by : List ℕ → List ℕ → Effects
+effects_by first second = record { written = files_of first second; lines = first ++ second; finish = finish_of second }
 
 -- a text above its limit
-abbrev pub too_long : ℕ → Blamed
-too_long word = record { word = word; refusal = record { number = 210; place = record { line = 1; column = 1 } } }
+abbrev pub too_long : ℕ → FileRefusal
+too_long word = record { word = word; refusal = record { number = TOO_LONG; place = record { line = 1; column = 1 } } }
 
-abbrev pub judged : List ℕ → List ℕ → Work
-judged first second = if nat_lt 8 (length first) then Err (too_long 0) else (if nat_lt 8 (length second) then Err (too_long 1) else Ok (doing_by first second))
+abbrev pub small_work : List ℕ → List ℕ → Work
+small_work first second = if nat_lt LONGEST_TEXT (length first) then Err (too_long 0) else (if nat_lt LONGEST_TEXT (length second) then Err (too_long 1) else Ok (effects_by first second))
 
 -- the work of the texts, which are two
 abbrev pub small_meaning : List (List ℕ) → Work
 small_meaning [] = Err (too_long 0)
 small_meaning (first ∷ []) = Err (too_long 1)
-small_meaning (first ∷ second ∷ others) = judged first second
+small_meaning (first ∷ second ∷ others) = small_work first second
 
 -- nothing more is promised
 abbrev pub no_promise : List (List ℕ) → Work → Type 0
@@ -71,7 +72,7 @@ no_promise texts work = Unit {0}
 abbrev pub small_account : Account
 small_account = record {
   words = 3;
-  limits = 8 ∷ 8 ∷ [];
+  limits = LONGEST_TEXT ∷ LONGEST_TEXT ∷ [];
   targets = verilog ∷ manifest ∷ [];
   ends = 0 ∷ 5 ∷ 6 ∷ 7 ∷ 9 ∷ [];
   meaning = small_meaning;

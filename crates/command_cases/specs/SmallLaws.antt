@@ -7,9 +7,10 @@ use Rattle.command_runs.specs.Statuses.{status_of_end}
 use Rattle.command_runs.specs.Work.{Work}
 use Rattle.command_runs.specs.declared.finish.End.{End}
 use Rattle.command_runs.specs.declared.finish.End.TheVariants.{Done, LinkFault, PeerFault, PeerStatus, Unfinished, TurnsSpent}
-use Rattle.command_cases.specs.SmallCommand.{small_meaning, judged, too_long, doing_by, end_by, end_of}
+use Rattle.command_cases.specs.declared.small.TheConstants.{LONGEST_TEXT}
+use Rattle.command_cases.specs.SmallCommand.{small_meaning, small_work, too_long, effects_by, end_by, end_of}
 
--- a test for more than the limit comes out alike on a text and on its front up to one octet more
+-- a test for more than the limit comes out alike on a text and on its prefix up to one octet more
 cut_text : {A : Type 0} (limit : ℕ) (text : List ℕ) (long : A) (meaning : List ℕ → A)
     → (if nat_lt limit (length (take (limit + 1) text)) then long else meaning (take (limit + 1) text)) ≡ (if nat_lt limit (length text) then long else meaning text)
 cut_text limit text long meaning =
@@ -21,12 +22,12 @@ cut_text limit text long meaning =
     ]
 
 -- what stands above the limits changes nothing
-pub small_cut : (texts : List (List ℕ)) → small_meaning (cut_texts (8 ∷ 8 ∷ []) texts) ≡ small_meaning texts
+pub small_cut : (texts : List (List ℕ)) → small_meaning (cut_texts (LONGEST_TEXT ∷ LONGEST_TEXT ∷ []) texts) ≡ small_meaning texts
 small_cut [] = refl
 small_cut (first ∷ []) = refl
 small_cut (first ∷ second ∷ others) =
-    cut_text 8 first (Err (too_long 0)) (λ f. if nat_lt 8 (length (take 9 second)) then Err (too_long 1) else Ok (doing_by f (take 9 second)))
-    ∙ ap (λ (work : Work). if nat_lt 8 (length first) then Err (too_long 0) else work) (cut_text 8 second (Err (too_long 1)) (λ s. Ok (doing_by first s)))
+    cut_text LONGEST_TEXT first (Err (too_long 0)) (λ f. if nat_lt LONGEST_TEXT (length (take (LONGEST_TEXT + 1) second)) then Err (too_long 1) else Ok (effects_by f (take (LONGEST_TEXT + 1) second)))
+    ∙ ap (λ (work : Work). if nat_lt LONGEST_TEXT (length first) then Err (too_long 0) else work) (cut_text LONGEST_TEXT second (Err (too_long 1)) (λ s. Ok (effects_by first s)))
 
 choice : (b : Bool) (x y : End) (ns : List ℕ) → Among (status_of_end x) ns → Among (status_of_end y) ns → Among (status_of_end (if b then x else y)) ns
 choice true x y ns p q = p

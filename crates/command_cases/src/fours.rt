@@ -7,7 +7,7 @@ use esi_base::{NoMemory, Octets};
 /// The octets of a piece.
 const PIECE: usize = 4;
 
-/// A text, of which so many octets were given, and the finish behind it.
+/// A text, of which so many octets were given, and the finish after it.
 #[derive(Drop)]
 pub struct Fours {
     pub text: Octets,

@@ -5,14 +5,14 @@
 
 mod fours;
 mod run;
+mod run_text;
 mod small;
-mod telling;
 
 use crate::run::{Failing, Kind, run_of};
 use std::alloc::{AllocError, Global};
 use std::io;
 
-/// Prints each line of the input, and the runs on its texts behind it. A line that begins with `#` is a
+/// Prints each line of the input, and the runs on its texts after it. A line that begins with `#` is a
 /// title.
 fn main(rt: HostRuntime) -> io::Result<()> {
     let alloc = rt.alloc();

@@ -1,6 +1,6 @@
 //! One run of the small command, over files and sinks in memory.
+use crate::run_text::{outcome_text, push_held, push_quoted, push_reads};
 use crate::small::Small;
-use crate::telling::{outcome_text, push_held, push_quoted, push_reads};
 use command_runs::run_command;
 use esi_base::List;
 use esi_links::{MemoryFiles, MemorySink, NotingFiles};
@@ -87,7 +87,7 @@ fn outside_of(
     })
 }
 
-/// The words behind the small command.
+/// The words after the small command.
 fn words(alloc: Global) -> Result<Vec<String>, AllocError> {
     let mut words = Vec::new(alloc);
     for word in ["a", "b", "p"] {

@@ -1,18 +1,29 @@
 //! The small command of the cases.
 ghost use Rattle.std.specs.Prelude.{◌≡◌, ◌++◌, ◌∷◌, [], IfOk, OnOk};
-ghost use Rattle.command_runs.specs.Account.{Makes, StaysWithin, doing_of};
+ghost use Rattle.esi_base.specs.Answers.{AnswersAs};
+ghost use Rattle.command_runs.specs.Account.{StaysWithin, effects_of};
 ghost use Rattle.command_cases.specs.FoursLeft.{fours_left, fours_finish};
-ghost use Rattle.command_cases.specs.SmallCommand.{small_account, small_meaning, no_promise, judged, doing_by, files_of, finish_of, end_of, end_by, keeps_of, empty_report, too_long as blamed_too_long};
+ghost use Rattle.command_cases.specs.SmallCommand.{small_account, small_meaning, no_promise, small_work, effects_by, files_of, finish_of, end_of, end_by, keeps_of, empty_report, too_long as too_long_in};
 ghost use Rattle.command_cases.specs.SmallLaws.{small_cut, small_ends};
 
 use crate::fours::Fours;
-use command_runs::{Blamed, Command, End, FileText, Finish, Made, Suffix, Target, WorkStop};
+use command_runs::{Command, End, FileRefusal, FileText, Finish, Output, Suffix, Target, WorkStop};
 use endpoint_hub::Report;
-use esi_base::{List, NoMemory, Octets, Place, Refusal};
+use esi_base::{List, NoMemory, Octets, Place, Refusal, Stop};
 use std::alloc::Global;
 
-/// The most octets of each text.
-const LIMITS: [usize; 2] = [8, 8];
+/// The most octets of each text: few, so that cases show texts above it.
+pub const LONGEST_TEXT: usize = 8;
+
+const _: () = prove!(LONGEST_TEXT == 8);
+
+/// The number of the refusal of a text that is longer.
+pub const TOO_LONG: u16 = 210;
+
+const _: () = prove!(TOO_LONG == 210);
+
+/// The limits of both texts.
+const LIMITS: [usize; 2] = [LONGEST_TEXT, LONGEST_TEXT];
 
 /// `FIRST SECOND PREFIX`: reads two files, writes PREFIX.v with the first text and PREFIX.json with the
 /// second, prints both, and comes to the end that the first octet of the second text names.
@@ -31,9 +42,9 @@ impl Command for Small {
         &LIMITS
     }
 
-    fn work(&self, alloc: Global, texts: &[Octets]) -> Result<Made<Fours>, WorkStop> {
+    fn work(&self, alloc: Global, texts: &[Octets]) -> Result<Output<Fours>, WorkStop> {
         match texts {
-            [first, second] => judge(alloc, first, second),
+            [first, second] => work_of(alloc, first, second),
             _ => unreachable!(),
         }
     }
@@ -43,39 +54,36 @@ impl Command for Small {
     ghost promised = { λ _ _. tt };
 }
 
-/// Judges the two texts, the first one first.
-fn judge(alloc: Global, first: &Octets, second: &Octets) -> Result<Made<Fours>, WorkStop>
-    ensures makes { Makes (judged first.now second.now) fours_left fours_finish result }
+/// Checks the two texts, the first one first, and makes the output of them.
+fn work_of(alloc: Global, first: &Octets, second: &Octets) -> Result<Output<Fours>, WorkStop>
+    ensures makes { AnswersAs (effects_of fours_left fours_finish) (small_work first.now second.now) result }
     ensures within { StaysWithin small_account fours_finish result }
 {
     if first.len() > LIMITS[0] {
-        return Err(WorkStop::Refused(too_long(0)));
+        return Err(Stop::Refused(too_long(0)));
     }
     if second.len() > LIMITS[1] {
-        return Err(WorkStop::Refused(too_long(1)));
+        return Err(Stop::Refused(too_long(1)));
     }
-    match make(alloc, first, second) {
-        Ok(made) => Ok(made),
-        Err(_) => Err(WorkStop::NoMemory),
-    }
+    Ok(make(alloc, first, second)?)
 }
 
 /// The refusal of a text above its limit.
-fn too_long(word: u32) -> Blamed
-    ensures { result ≡ blamed_too_long word }
+fn too_long(word: u32) -> FileRefusal
+    ensures { result ≡ too_long_in word }
 {
-    Blamed {
+    FileRefusal {
         word,
         refusal: Refusal {
-            number: 210,
+            number: TOO_LONG,
             place: Place { line: 1, column: 1 },
         },
     }
 }
 
 /// Makes the files and what is printed.
-fn make(alloc: Global, first: &Octets, second: &Octets) -> Result<Made<Fours>, NoMemory>
-    ensures { IfOk result (λ made. doing_of fours_left fours_finish made ≡ doing_by first.now second.now) }
+fn make(alloc: Global, first: &Octets, second: &Octets) -> Result<Output<Fours>, NoMemory>
+    ensures { IfOk result (λ made. effects_of fours_left fours_finish made ≡ effects_by first.now second.now) }
 {
     let written = files(alloc, first, second)?;
     let mut text = Octets::from_slice(alloc, first.as_slice())?;
@@ -86,7 +94,7 @@ fn make(alloc: Global, first: &Octets, second: &Octets) -> Result<Made<Fours>, N
         given: 0,
         finish,
     };
-    Ok(Made { written, lines })
+    Ok(Output { written, lines })
 }
 
 /// The files that are written.
@@ -110,10 +118,7 @@ fn push_file(
 {
     let text = Octets::from_slice(alloc, text.as_slice())?;
     let target = Target { word: 2, suffix };
-    match files.push(FileText { target, text }) {
-        Ok(()) => Ok(()),
-        Err(_file) => Err(NoMemory),
-    }
+    files.add(FileText { target, text })
 }
 
 /// What the work comes to.

@@ -1,14 +1,14 @@
--- Files that are read one behind the other: their texts and the reads that are noted.
+-- Files that are read one after the other: their texts and the reads that are noted.
 use Rattle.std.proofs.Common.{◌≡◌, ℕ, ◌+◌, ◌<◌, ◌≤◌, zero, suc, Bool, false, List, [], ◌∷◌, ◌++◌, Option, length, take, drop, map, get_or, refl, sym, ◌∙◌, ap, subst, add-one, take-append-drop, drop-cons, length-drop, arith, inl, inr, Global, String}
 use Rattle.std.specs.String.{string_bytes}
 use Rattle.std.proofs.lemmas.List.{take_more, get_or-map}
-use Rattle.esi_links.specs.Counts.{Rose, SameCounts}
-use Rattle.esi_links.specs.ReadLog.{Noted, ReadThrough, ReadFailed, ReadCut, AreReadThrough, AreReadToFault, AreReadToCut}
+use Rattle.esi_links.specs.Counts.{CountRose, SameCounts}
+use Rattle.esi_links.specs.ReadLog.{AddsNotesOf, ReadThrough, ReadFailed, ReadCut, AreReadThrough, AreReadToFault, AreReadToCut}
 use Rattle.esi_links.specs.Texts.{ReadUpTo}
 use Rattle.esi_links.specs.declared.note.Note.{Note}
 use Rattle.esi_links.proofs.LogJoined.{noted_join, through_more, fault_behind, cut_at}
 use Rattle.command_runs.specs.Account.{AllWithin}
-use Rattle.command_runs.specs.Outside.{FilesSeen, SameFiles}
+use Rattle.command_runs.specs.Outside.{FilesView, SameFiles}
 use Rattle.command_runs.specs.Ran.{AreReadable, RoseAmong}
 use Rattle.command_runs.specs.Reading.{AreRead}
 use Rattle.command_runs.proofs.PutLemmas.{no_fault_join}
@@ -56,14 +56,14 @@ read_count told (other ∷ limits) (first ∷ names) (text ∷ texts) were = ap 
 
 -- a count that rose under a name rose under one of the names
 pub rose_at : (before mid now : List ℕ → ℕ) (names : List (List ℕ)) (at : ℕ) (name d : List ℕ) → at < length names → name ≡ get_or names at d
-    → SameCounts before mid → Rose (mid name) (now name) → RoseAmong before now names
+    → SameCounts before mid → CountRose (mid name) (now name) → RoseAmong before now names
 rose_at before mid now [] at name d within is same rose = absurd (omega (arith, within))
 rose_at before mid now (first ∷ names) zero name d within is same rose =
-    inl (subst (λ (n : List ℕ). Rose (before n) (now n)) is (subst (λ (k : ℕ). Rose k (now name)) (same name) rose))
+    inl (subst (λ (n : List ℕ). CountRose (before n) (now n)) is (subst (λ (k : ℕ). CountRose k (now name)) (same name) rose))
 rose_at before mid now (first ∷ names) (suc at) name d within is same rose = inr (rose_at before mid now names at name d (omega (arith, within)) is same rose)
 
 -- nothing happened, twice
-pub same_join : (before mid now : FilesSeen) → SameFiles before mid → SameFiles mid now → SameFiles before now
+pub same_join : (before mid now : FilesView) → SameFiles before mid → SameFiles mid now → SameFiles before now
 same_join before mid now first second = record {
   texts = λ name. second.texts name ∙ first.texts name;
   unreadables = λ name. second.unreadables name ∙ first.unreadables name;
@@ -72,7 +72,7 @@ same_join before mid now first second = record {
 
 -- ---- the notes
 
--- where the first of some files were read through, the reading of all was given up behind them
+-- where the first of some files were read through, the reading of all was given up after them
 cut_begun : (limits others : List ℕ) (names behind : List (List ℕ)) (notes : List Note) → length others ≡ length behind
     → AreReadThrough limits names notes → AreReadToCut (limits ++ others) (names ++ behind) notes
 cut_begun [] [] [] [] notes same none = none
@@ -105,42 +105,42 @@ module _ (limits : List ℕ) (names : List (List ℕ)) (at limit dl : ℕ) (name
   pub readable_next : (unreadable : List ℕ → Bool) → AreReadable unreadable (take at names) → unreadable name ≡ false → AreReadable unreadable (take (at + 1) names)
   readable_next unreadable were readable = rw names_more (readable_more unreadable (take at names) name were readable)
 
-  pub through_next : (before mid now : Option (List Note)) (end : ℕ) → Noted before mid (AreReadThrough (take at limits) (take at names))
-      → Noted mid now (ReadThrough limit name 0 end) → Noted before now (AreReadThrough (take (at + 1) limits) (take (at + 1) names))
+  pub through_next : (before mid now : Option (List Note)) (end : ℕ) → AddsNotesOf before mid (AreReadThrough (take at limits) (take at names))
+      → AddsNotesOf mid now (ReadThrough limit name 0 end) → AddsNotesOf before now (AreReadThrough (take (at + 1) limits) (take (at + 1) names))
   through_next before mid now end were read =
-      let joined : Noted before now (AreReadThrough (take at limits ++ limit ∷ []) (take at names ++ name ∷ []))
+      let joined : AddsNotesOf before now (AreReadThrough (take at limits ++ limit ∷ []) (take at names ++ name ∷ []))
       = noted_join (AreReadThrough (take at limits) (take at names)) (ReadThrough limit name 0 end) (AreReadThrough (take at limits ++ limit ∷ []) (take at names ++ name ∷ []))
       (λ first second a b. through_more (take at limits) (take at names) first limit name end second a b) were read in
-      subst (λ (ls : List ℕ). Noted before now (AreReadThrough ls (take (at + 1) names))) (sym limits_more)
-      (subst (λ (ns : List (List ℕ)). Noted before now (AreReadThrough (take at limits ++ limit ∷ []) ns)) (sym names_more) joined)
+      subst (λ (ls : List ℕ). AddsNotesOf before now (AreReadThrough ls (take (at + 1) names))) (sym limits_more)
+      (subst (λ (ns : List (List ℕ)). AddsNotesOf before now (AreReadThrough (take at limits ++ limit ∷ []) ns)) (sym names_more) joined)
 
-  pub fault_next : (before mid now : Option (List Note)) → Noted before mid (AreReadThrough (take at limits) (take at names))
-      → Noted mid now (ReadFailed limit name 0) → Noted before now (AreReadToFault limits names)
+  pub fault_next : (before mid now : Option (List Note)) → AddsNotesOf before mid (AreReadThrough (take at limits) (take at names))
+      → AddsNotesOf mid now (ReadFailed limit name 0) → AddsNotesOf before now (AreReadToFault limits names)
   fault_next before mid now were failed =
       let others = drop (at + 1) limits in
       let behind = drop (at + 1) names in
-      let joined : Noted before now (AreReadToFault (take at limits ++ limit ∷ others) (take at names ++ name ∷ behind))
+      let joined : AddsNotesOf before now (AreReadToFault (take at limits ++ limit ∷ others) (take at names ++ name ∷ behind))
       = noted_join (AreReadThrough (take at limits) (take at names)) (ReadFailed limit name 0) (AreReadToFault (take at limits ++ limit ∷ others) (take at names ++ name ∷ behind))
       (λ first second a b. fault_behind (take at limits) others (take at names) behind first limit name second a b) were failed in
-      subst (λ (ls : List ℕ). Noted before now (AreReadToFault ls names)) (split_at limits at dl limit within limit_is)
-      (subst (λ (ns : List (List ℕ)). Noted before now (AreReadToFault (take at limits ++ limit ∷ others) ns)) (split_at names at dn name within_names name_is) joined)
+      subst (λ (ls : List ℕ). AddsNotesOf before now (AreReadToFault ls names)) (split_at limits at dl limit within limit_is)
+      (subst (λ (ns : List (List ℕ)). AddsNotesOf before now (AreReadToFault (take at limits ++ limit ∷ others) ns)) (split_at names at dn name within_names name_is) joined)
 
-  pub cut_next : (before mid now : Option (List Note)) → Noted before mid (AreReadThrough (take at limits) (take at names))
-      → Noted mid now (ReadCut limit name 0) → Noted before now (AreReadToCut limits names)
+  pub cut_next : (before mid now : Option (List Note)) → AddsNotesOf before mid (AreReadThrough (take at limits) (take at names))
+      → AddsNotesOf mid now (ReadCut limit name 0) → AddsNotesOf before now (AreReadToCut limits names)
   cut_next before mid now were cut =
       let others = drop (at + 1) limits in
       let behind = drop (at + 1) names in
-      let joined : Noted before now (AreReadToCut (take at limits ++ limit ∷ others) (take at names ++ name ∷ behind))
+      let joined : AddsNotesOf before now (AreReadToCut (take at limits ++ limit ∷ others) (take at names ++ name ∷ behind))
       = noted_join (AreReadThrough (take at limits) (take at names)) (ReadCut limit name 0) (AreReadToCut (take at limits ++ limit ∷ others) (take at names ++ name ∷ behind))
       (λ first second a b. cut_at (take at limits) others (take at names) behind first limit name second a b) were cut in
-      subst (λ (ls : List ℕ). Noted before now (AreReadToCut ls names)) (split_at limits at dl limit within limit_is)
-      (subst (λ (ns : List (List ℕ)). Noted before now (AreReadToCut (take at limits ++ limit ∷ others) ns)) (split_at names at dn name within_names name_is) joined)
+      subst (λ (ls : List ℕ). AddsNotesOf before now (AreReadToCut ls names)) (split_at limits at dl limit within limit_is)
+      (subst (λ (ns : List (List ℕ)). AddsNotesOf before now (AreReadToCut (take at limits ++ limit ∷ others) ns)) (split_at names at dn name within_names name_is) joined)
 
-  -- memory ran out behind this file
-  pub cut_behind_next : (before mid now : Option (List Note)) (end : ℕ) → Noted before mid (AreReadThrough (take at limits) (take at names))
-      → Noted mid now (ReadThrough limit name 0 end) → Noted before now (AreReadToCut limits names)
+  -- memory ran out after this file
+  pub cut_behind_next : (before mid now : Option (List Note)) (end : ℕ) → AddsNotesOf before mid (AreReadThrough (take at limits) (take at names))
+      → AddsNotesOf mid now (ReadThrough limit name 0 end) → AddsNotesOf before now (AreReadToCut limits names)
   cut_behind_next before mid now end were read =
-      let through : Noted before now (AreReadThrough (take (at + 1) limits) (take (at + 1) names)) = through_next before mid now end were read in
+      let through : AddsNotesOf before now (AreReadThrough (take (at + 1) limits) (take (at + 1) names)) = through_next before mid now end were read in
       let same : length (drop (at + 1) limits) ≡ length (drop (at + 1) names) = simp length-drop (omega (arith, as_many)) in
       let cut : AreReadToCut (take (at + 1) limits ++ drop (at + 1) limits) (take (at + 1) names ++ drop (at + 1) names) through.notes
       = cut_begun (take (at + 1) limits) (drop (at + 1) limits) (take (at + 1) names) (drop (at + 1) names) through.notes same through.are in

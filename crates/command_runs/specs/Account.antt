@@ -1,17 +1,18 @@
 -- What a command is: its files, and what it makes of their texts.
 use Rattle.std.specs.Prelude.{◌≡◌, ◌<◌, ◌≤◌, ◌⊎◌, ℕ, ◌+◌, List, [], ◌∷◌, length, take, Result, Ok, Err}
-use Rattle.command_runs.specs.declared.command.Made.{Made}
+use Rattle.esi_base.specs.declared.stop.Stop.{Stop}
+use Rattle.esi_base.specs.declared.stop.Stop.TheVariants.{Refused, NoMemory}
+use Rattle.command_runs.specs.declared.command.Output.{Output}
 use Rattle.command_runs.specs.declared.finish.Finish.{Finish}
 use Rattle.command_runs.specs.declared.work.FileText.{FileText}
 use Rattle.command_runs.specs.declared.work.Target.{Target}
-use Rattle.command_runs.specs.declared.work.WorkStop.{WorkStop}
-use Rattle.command_runs.specs.declared.work.WorkStop.TheVariants.{Refused, NoMemory}
+use Rattle.command_runs.specs.declared.work.FileRefusal.{FileRefusal}
 use Rattle.command_runs.specs.Statuses.{status_of_end}
-use Rattle.command_runs.specs.Work.{Doing, Work}
+use Rattle.command_runs.specs.Work.{Effects, Work}
 
 -- What a command is.
 pub record Account : Type 1 where
-  -- how many words stand behind the command's own
+  -- how many words stand after the command's own
   pub words : ℕ
   -- The first of them are the names of the files that are read. The longest text of each, in octets.
   pub limits : List ℕ
@@ -40,15 +41,9 @@ cut_texts [] texts = []
 cut_texts (limit ∷ limits) [] = []
 cut_texts (limit ∷ limits) (text ∷ texts) = take (limit + 1) text ∷ cut_texts limits texts
 
--- what is done, where this was made
-abbrev pub doing_of : {L : Type 0} → (L → List ℕ) → (L → Finish) → Made L → Doing
-doing_of left finish made = record { written = made.written; lines = left made.lines; finish = finish made.lines }
-
--- The work is made as it is meant, unless memory ran out.
-abbrev pub Makes : {L : Type 0} → Work → (L → List ℕ) → (L → Finish) → Result (Made L) WorkStop → Type 0
-Makes work left finish (Ok made) = work ≡ Ok (doing_of left finish made)
-Makes work left finish (Err (Refused blamed)) = work ≡ Err blamed
-Makes work left finish (Err NoMemory) = Unit {0}
+-- what is done where this is the output of the work
+abbrev pub effects_of : {L : Type 0} → (L → List ℕ) → (L → Finish) → Output L → Effects
+effects_of left finish made = record { written = made.written; lines = left made.lines; finish = finish made.lines }
 
 -- each file is one of these
 abbrev pub AreAmong : List FileText → List Target → Type 0
@@ -61,7 +56,7 @@ AreNamed words [] = Unit {0}
 AreNamed words (file ∷ files) = (file.target.word < words) × AreNamed words files
 
 -- The work comes to one of the command's ends, writes its files alone, and blames a file that was read.
-abbrev pub StaysWithin : {L : Type 0} → Account → (L → Finish) → Result (Made L) WorkStop → Type 0
+abbrev pub StaysWithin : {L : Type 0} → Account → (L → Finish) → Result (Output L) (Stop FileRefusal) → Type 0
 StaysWithin account finish (Ok made) = Among (status_of_end (finish made.lines).end) account.ends × AreAmong made.written account.targets × AreNamed account.words made.written
-StaysWithin account finish (Err (Refused blamed)) = blamed.word < length account.limits
+StaysWithin account finish (Err (Refused file_refusal)) = file_refusal.word < length account.limits
 StaysWithin account finish (Err NoMemory) = Unit {0}

@@ -3,9 +3,9 @@ pub mod Account
 pub mod Statuses
 pub mod Outside
 pub mod Line
-pub mod Carried
+pub mod CarryOut
 pub mod Ran
 pub mod WholeText
-pub mod Concluded
+pub mod Conclusions
 pub mod Pieces
 pub mod Reading

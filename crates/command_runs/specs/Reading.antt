@@ -12,10 +12,10 @@ AreRead told (limit ∷ limits) (name ∷ names) [] = ⊥
 AreRead told (limit ∷ limits) (name ∷ names) (text ∷ texts) = ReadUpTo limit (told name) text × AreRead told limits names texts
 
 -- what is told under a name, and what was read there where nothing is told
-abbrev pub agreed : (List ℕ → Option (List ℕ)) → List (List ℕ) → List (List ℕ) → List (List ℕ)
-agreed told [] texts = []
-agreed told (name ∷ names) [] = []
-agreed told (name ∷ names) (text ∷ texts) = unwrap_or (told name) text ∷ agreed told names texts
+abbrev pub agreeing_texts : (List ℕ → Option (List ℕ)) → List (List ℕ) → List (List ℕ) → List (List ℕ)
+agreeing_texts told [] texts = []
+agreeing_texts told (name ∷ names) [] = []
+agreeing_texts told (name ∷ names) (text ∷ texts) = unwrap_or (told name) text ∷ agreeing_texts told names texts
 
 -- what is told under each name, no octet where nothing is
 abbrev pub any_texts : (List ℕ → Option (List ℕ)) → List (List ℕ) → List (List ℕ)

@@ -1,4 +1,4 @@
--- How a command ends: its status, its cause, and the line that tells it.
+-- How a command ends: its status, its cause, and its line.
 use Rattle.std.specs.Prelude.{ℕ, List, [], ◌++◌, slice_index_or, codes}
 use Rattle.std.specs.Fmt.{decimal}
 use Rattle.esi_base.specs.declared.place.Refusal.{Refusal}
@@ -21,7 +21,7 @@ status_of_end (TurnsSpent count) = 9
 -- the status
 abbrev pub status_of : Ending → ℕ
 status_of Usage = 1
-status_of (Refused blamed) = 2
+status_of (Refused file_refusal) = 2
 status_of ReadFault = 3
 status_of WriteFault = 4
 status_of NoMemory = 8
@@ -39,7 +39,7 @@ cause_of_end (TurnsSpent count) = causes.Turns count
 -- the cause
 abbrev pub cause_of : Ending → Cause
 cause_of Usage = causes.Plain
-cause_of (Refused blamed) = causes.Refused blamed.word blamed.refusal
+cause_of (Refused file_refusal) = causes.Refused file_refusal.word file_refusal.refusal
 cause_of ReadFault = causes.Plain
 cause_of WriteFault = causes.Plain
 cause_of NoMemory = causes.Plain
@@ -62,7 +62,7 @@ numbered_line words number = words ++ decimal number ++ codes "\n"
 abbrev pub peer_status_line : List ℕ → ℕ → List ℕ
 peer_status_line name status = codes "peer status " ++ name ++ numbered_line (codes " ") status
 
--- the line that tells what a work came to
+-- the line of what a work came to
 abbrev pub line_of_end : End → List ℕ
 line_of_end Done = []
 line_of_end LinkFault = codes "link fault\n"
@@ -71,10 +71,10 @@ line_of_end (PeerStatus name status) = peer_status_line name status
 line_of_end (Unfinished count) = numbered_line (codes "unfinished ") count
 line_of_end (TurnsSpent count) = numbered_line (codes "turns spent ") count
 
--- the line that tells an ending, of a command with these words behind it
+-- the line of an ending, of a command with these words after it
 abbrev pub line_of : List (List ℕ) → Ending → List ℕ
 line_of names Usage = usage_line
-line_of names (Refused blamed) = refused_line (slice_index_or names blamed.word []) blamed.refusal
+line_of names (Refused file_refusal) = refused_line (slice_index_or names file_refusal.word []) file_refusal.refusal
 line_of names ReadFault = codes "read fault\n"
 line_of names WriteFault = codes "write fault\n"
 line_of names NoMemory = codes "no memory\n"

@@ -7,6 +7,6 @@ use Rattle.command_runs.specs.declared.whole_text.WholeText.{WholeText}
 abbrev pub text_left : WholeText → List ℕ
 text_left whole = drop whole.given whole.text
 
--- the finish behind them
+-- the finish after them
 abbrev pub text_finish : WholeText → Finish
 text_finish whole = whole.finish

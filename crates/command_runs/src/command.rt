@@ -1,14 +1,16 @@
 //! What a command is.
 ghost use Rattle.std.specs.Prelude.{◌≡◌, ℕ, ◌≤◌, length, List as Listed};
-ghost use Rattle.command_runs.specs.Account.{Account, Makes, StaysWithin, AllWithin, cut_texts};
+ghost use Rattle.esi_base.specs.Answers.{AnswersAs};
+ghost use Rattle.esi_links.specs.declared.limits.TheConstants.{LONGEST_FILE};
+ghost use Rattle.command_runs.specs.Account.{Account, StaysWithin, AllWithin, cut_texts, effects_of};
 
 use crate::{FileText, Printer, WorkStop};
 use esi_base::{List, Octets};
 use std::alloc::Global;
 
-/// What is made of texts of which none is refused: the files to write, in order, and what is printed.
+/// The output of a work that refuses no text: the files to write, in order, and the lines to print.
 #[derive(Drop)]
-pub struct Made<L> {
+pub struct Output<L> {
     pub written: List<FileText>,
     pub lines: L,
 }
@@ -22,7 +24,7 @@ pub trait Command {
     /// What the command is.
     ghost account: { Self → Account };
 
-    /// How many words stand behind the command's own.
+    /// How many words stand after the command's own.
     fn words(&self) -> usize
         ensures { result ≡ (account self.now).words };
 
@@ -30,12 +32,12 @@ pub trait Command {
     fn limits(&self) -> &[usize]
         ensures limits { result.now ≡ (account self.now).limits }
         ensures few { length result.now ≤ (account self.now).words }
-        ensures reach { AllWithin 67108864 result.now };
+        ensures reach { AllWithin LONGEST_FILE result.now };
 
     /// What the command makes of the texts of its files, each read up to one octet above its limit.
-    fn work(&self, alloc: Global, texts: &[Octets]) -> Result<Made<Self::Lines>, WorkStop>
+    fn work(&self, alloc: Global, texts: &[Octets]) -> Result<Output<Self::Lines>, WorkStop>
         requires { length texts.now ≡ length (account self.now).limits }
-        ensures makes { Makes ((account self.now).meaning texts.now) Self.Lines.left Self.Lines.finish result }
+        ensures makes { AnswersAs (effects_of Self.Lines.left Self.Lines.finish) ((account self.now).meaning texts.now) result }
         ensures within { StaysWithin (account self.now) Self.Lines.finish result };
 
     /// What stands more than one octet above the limit of a file changes nothing.

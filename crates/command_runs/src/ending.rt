@@ -1,7 +1,7 @@
-//! How a command ends, before it is told.
+//! How a command ends, before its status's line is written.
 ghost use Rattle.std.specs.Prelude.{◌≡◌};
 
-use crate::{Blamed, Cause, End, Finish};
+use crate::{Cause, End, FileRefusal, Finish};
 use endpoint_hub::Report;
 
 /// How a command ends.
@@ -10,12 +10,12 @@ pub enum Ending {
     /// The words match no command.
     Usage,
     /// A text is refused.
-    Refused(Blamed),
+    Refused(FileRefusal),
     /// A file could not be read.
     ReadFault,
     /// A file, or what is printed, could not be written.
     WriteFault,
-    /// Memory could not be had.
+    /// Out of memory.
     NoMemory,
     /// The work came to its end.
     Ended(End),
@@ -42,14 +42,14 @@ impl Ending {
         }
     }
 
-    /// What the status's line tells beside the status.
+    /// What the status's line says beside the status.
     pub fn cause(self) -> Cause
         ensures { result ≡ cause_of self }
     {
         match self {
-            Ending::Refused(blamed) => Cause::Refused {
-                word: blamed.word,
-                refusal: blamed.refusal,
+            Ending::Refused(file_refusal) => Cause::Refused {
+                word: file_refusal.word,
+                refusal: file_refusal.refusal,
             },
             Ending::Ended(End::PeerFault { code }) => Cause::PeerFault { code },
             Ending::Ended(End::PeerStatus { name, status }) => Cause::PeerStatus { name, status },
@@ -64,21 +64,21 @@ impl Ending {
     }
 }
 
-/// How a command ends, and the report that it tells.
+/// How a command ends, and its report.
 #[derive(Debug, Drop)]
 pub struct Conclusion {
     /// How it ends.
     pub ending: Ending,
-    /// What a served session tells at its end.
+    /// What a served session reports at its end.
     pub report: Option<Report>,
 }
 
 impl Conclusion {
-    ghost use Rattle.command_runs.specs.Concluded.{unreported, finished};
+    ghost use Rattle.command_runs.specs.Conclusions.{without_report_of, conclusion_of};
 
-    /// An ending that tells no report.
+    /// An ending without a report.
     pub fn without_report(ending: Ending) -> Conclusion
-        ensures { result ≡ unreported ending }
+        ensures { result ≡ without_report_of ending }
     {
         Conclusion {
             ending,
@@ -88,7 +88,7 @@ impl Conclusion {
 
     /// The end of a work.
     pub fn of(finish: Finish) -> Conclusion
-        ensures { result ≡ finished finish }
+        ensures { result ≡ conclusion_of finish }
     {
         Conclusion {
             ending: Ending::Ended(finish.end),

@@ -1,4 +1,4 @@
-//! What a command's work comes to, and what is printed behind it.
+//! What a command's work comes to, and what is printed after it.
 ghost use Rattle.std.specs.Prelude.{◌≡◌};
 
 use endpoint_hub::Report;
@@ -10,7 +10,7 @@ use std::alloc::Global;
 pub enum End {
     /// All is done. Status 0.
     Done,
-    /// A log tells of a failed call on links. Status 5.
+    /// A log has a failed call on links. Status 5.
     LinkFault,
     /// The peer broke its protocol, with this code. Status 6.
     PeerFault { code: u32 },
@@ -22,24 +22,24 @@ pub enum End {
     TurnsSpent { count: u32 },
 }
 
-/// What a command's work comes to, and what is told and printed of it.
+/// What a command's work comes to, and what is reported and printed of it.
 #[derive(Debug, Drop)]
 pub struct Finish {
     /// What it comes to.
     pub end: End,
-    /// What a served session tells at its end.
+    /// What a served session reports at its end.
     pub report: Option<Report>,
-    /// Whether the report is told also where status 4 takes the place of the end, since the closing
+    /// Whether the report is given also where status 4 takes the place of the end, since the closing
     /// lines could not be printed whole.
     pub keeps_report: bool,
-    /// The lines that are printed behind the end.
+    /// The lines that are printed after the end.
     pub closing: Octets,
 }
 
 impl Finish {
     ghost use Rattle.command_runs.specs.Work.{all_done};
 
-    /// All is done, and nothing is told or printed of it. It takes no memory.
+    /// All is done, and nothing is reported or printed of it. It takes no memory.
     pub fn done(alloc: Global) -> Finish
         ensures { result ≡ all_done }
     {

@@ -2,12 +2,12 @@
 use endpoint_hub::Report;
 use esi_base::{Octets, Refusal};
 
-/// What the status's line tells.
+/// What the status's line says beside the status.
 #[derive(Debug, Drop)]
 pub enum Cause {
     /// Nothing beside the status.
     Plain,
-    /// A text is refused: the place of its file's name, from 0, among the words behind the command,
+    /// A text is refused: the number of its file's name, from 0, among the words after the command,
     /// and the refusal. With status 2.
     Refused { word: u32, refusal: Refusal },
     /// The peer broke its protocol, with this code. With status 6.
@@ -25,9 +25,9 @@ pub enum Cause {
 pub enum Told {
     /// The whole line, which for status 0 is empty.
     Whole,
-    /// A front of it: the sink failed.
+    /// A prefix of it: the sink failed.
     Fault,
-    /// A front of it: memory could not be had.
+    /// A prefix of it: memory ran out.
     NoMemory,
 }
 
@@ -35,12 +35,12 @@ pub enum Told {
 #[derive(Debug, Drop)]
 pub struct Outcome {
     /// 0 Ok, 1 usage, 2 refused, 3 read fault, 4 write fault, 5 link fault, 6 peer fault, 7 ended
-    /// early, 8 no memory, 9 turns spent.
+    /// early, 8 out of memory, 9 turns spent.
     pub status: u8,
-    /// What the status's line tells beside the status.
+    /// What the status's line says beside the status.
     pub cause: Cause,
     /// Whether that line was written.
     pub told: Told,
-    /// What a served session tells at its end; None for a command that serves none.
+    /// What a served session reports at its end; None for a command that serves none.
     pub report: Option<Report>,
 }

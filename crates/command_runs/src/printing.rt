@@ -1,11 +1,11 @@
 //! What a command prints: its lines, piece by piece, and its closing lines.
 ghost use Rattle.std.specs.Prelude.{◌≡◌, ◌≤◌, ◌<◌, ◌++◌, [], Bool, true, false, length, IfOk, OnOk, IsErrOf};
 ghost use Rattle.esi_links.specs.Counts.{HasCause};
-ghost use Rattle.esi_links.specs.Growth.{Grows, GrowsByFront};
-ghost use Rattle.command_runs.specs.Carried.{EndsInPrint};
-ghost use Rattle.command_runs.specs.Concluded.{cut_short_of};
-ghost use Rattle.command_runs.specs.Outside.{sink_seen};
-ghost use Rattle.command_runs.specs.Pieces.{Printed};
+ghost use Rattle.esi_links.specs.Growth.{Grows, GrowsByPrefix};
+ghost use Rattle.command_runs.specs.CarryOut.{EndsInPrint};
+ghost use Rattle.command_runs.specs.Conclusions.{cut_short_of};
+ghost use Rattle.command_runs.specs.Outside.{sink_view};
+ghost use Rattle.command_runs.specs.Pieces.{PrintsSome};
 
 use crate::ending::Conclusion;
 use crate::{End, Ending, Finish, Printer};
@@ -13,10 +13,10 @@ use esi_base::Octets;
 use esi_links::{OutStop, Sink, write_whole};
 use std::alloc::Global;
 
-/// Prints lines, and the closing lines of the finish behind them.
+/// Prints lines, and the closing lines of the finish after them.
 pub(crate) fn print<P: Printer, O: Sink>(alloc: Global, lines: P, out: &mut O) -> Conclusion
     ensures ends { EndsInPrint (P.left lines) (P.finish lines)
-        (sink_seen (O.octets out.old) (O.faults out.old)) (sink_seen (O.octets out.new) (O.faults out.new)) result.ending result.report }
+        (sink_view (O.octets out.old) (O.faults out.old)) (sink_view (O.octets out.new) (O.faults out.new)) result.ending result.report }
     ensures count { O.faults out.old ≤ O.faults out.new }
 {
     let mut lines = lines;
@@ -39,9 +39,9 @@ fn print_lines<P: Printer, O: Sink>(
     ensures whole { OnOk result (Grows (O.octets out.old) (O.octets out.new) (P.left lines.old)) }
     ensures none_left { OnOk result (P.left lines.new ≡ []) }
     ensures kept { OnOk result (P.finish lines.new ≡ P.finish lines.old) }
-    ensures failed { IsErrOf result OutStop.Fault → GrowsByFront (O.octets out.old) (O.octets out.new) (P.left lines.old) }
+    ensures failed { IsErrOf result OutStop.Fault → GrowsByPrefix (O.octets out.old) (O.octets out.new) (P.left lines.old) }
     ensures no_memory { IsErrOf result OutStop.NoMemory
-        → GrowsByFront (O.octets out.old) (O.octets out.new) (P.left lines.old ++ (P.finish lines.old).closing) }
+        → GrowsByPrefix (O.octets out.old) (O.octets out.new) (P.left lines.old ++ (P.finish lines.old).closing) }
     ensures quiet { OnOk result (O.faults out.new ≡ O.faults out.old) }
     ensures quiet_no_memory { IsErrOf result OutStop.NoMemory → O.faults out.new ≡ O.faults out.old }
     ensures cause { HasCause (O.faults out.old) (O.faults out.new) result }
@@ -58,14 +58,14 @@ fn print_piece<P: Printer, O: Sink>(
     out: &mut O,
 ) -> Result<bool, OutStop>
     requires { piece.old ≡ [] }
-    ensures printed { OnOk result (Printed (O.octets out.old) (O.octets out.new) (P.left lines.old) (P.left lines.new)) }
+    ensures printed { OnOk result (PrintsSome (O.octets out.old) (O.octets out.new) (P.left lines.old) (P.left lines.new)) }
     ensures again { OnOk result (piece.new ≡ []) }
     ensures kept { OnOk result (P.finish lines.new ≡ P.finish lines.old) }
     ensures fewer { IfOk result (λ more. more ≡ true → length (P.left lines.new) < length (P.left lines.old)) }
     ensures end { IfOk result (λ more. more ≡ false → P.left lines.new ≡ []) }
-    ensures failed { IsErrOf result OutStop.Fault → GrowsByFront (O.octets out.old) (O.octets out.new) (P.left lines.old) }
+    ensures failed { IsErrOf result OutStop.Fault → GrowsByPrefix (O.octets out.old) (O.octets out.new) (P.left lines.old) }
     ensures no_memory { IsErrOf result OutStop.NoMemory
-        → GrowsByFront (O.octets out.old) (O.octets out.new) (P.left lines.old ++ (P.finish lines.old).closing) }
+        → GrowsByPrefix (O.octets out.old) (O.octets out.new) (P.left lines.old ++ (P.finish lines.old).closing) }
     ensures quiet { OnOk result (O.faults out.new ≡ O.faults out.old) }
     ensures quiet_no_memory { IsErrOf result OutStop.NoMemory → O.faults out.new ≡ O.faults out.old }
     ensures cause { HasCause (O.faults out.old) (O.faults out.new) result }
@@ -82,7 +82,7 @@ fn print_piece<P: Printer, O: Sink>(
 /// Prints the closing lines, where all lines before them were printed.
 fn print_closing<O: Sink>(finish: Finish, out: &mut O) -> Conclusion
     ensures ends { EndsInPrint [] finish
-        (sink_seen (O.octets out.old) (O.faults out.old)) (sink_seen (O.octets out.new) (O.faults out.new)) result.ending result.report }
+        (sink_view (O.octets out.old) (O.faults out.old)) (sink_view (O.octets out.new) (O.faults out.new)) result.ending result.report }
     ensures count { O.faults out.old ≤ O.faults out.new }
 {
     match write_whole(out, finish.closing.as_slice()) {

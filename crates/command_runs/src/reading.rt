@@ -1,10 +1,11 @@
 //! The files that a command reads.
 ghost use Rattle.std.specs.Prelude.{◌≡◌, ◌≤◌, ℕ, List as Listed, length, map, string_bytes, IfOk, OnOk, IsErrOf};
-ghost use Rattle.esi_links.specs.Counts.{Later};
-ghost use Rattle.esi_links.specs.ReadLog.{Noted, AreReadThrough, AreReadToFault, AreReadToCut};
+ghost use Rattle.esi_links.specs.Counts.{NoneFell};
+ghost use Rattle.esi_links.specs.declared.limits.TheConstants.{LONGEST_FILE};
+ghost use Rattle.esi_links.specs.ReadLog.{AddsNotesOf, AreReadThrough, AreReadToFault, AreReadToCut};
 ghost use Rattle.esi_links.specs.Texts.{SameTexts};
 ghost use Rattle.command_runs.specs.Account.{AllWithin};
-ghost use Rattle.command_runs.specs.Outside.{files_seen, SameFiles};
+ghost use Rattle.command_runs.specs.Outside.{files_view, SameFiles};
 ghost use Rattle.command_runs.specs.Ran.{AreReadable, RoseAmong};
 ghost use Rattle.command_runs.specs.Reading.{AreRead};
 
@@ -13,7 +14,7 @@ use esi_links::{Files, OutStop, read_whole};
 use std::alloc::Global;
 
 /// Reads the files under some names whole, in order, each up to one octet above its limit, and none
-/// behind one that could not be read.
+/// after one that could not be read.
 pub(crate) fn read_files<F: Files>(
     alloc: Global,
     files: &mut F,
@@ -21,26 +22,26 @@ pub(crate) fn read_files<F: Files>(
     limits: &[usize],
 ) -> Result<List<Octets>, OutStop>
     requires as_many { length names.now ≡ length limits.now }
-    requires reach { AllWithin 67108864 limits.now }
+    requires reach { AllWithin LONGEST_FILE limits.now }
     ensures read { IfOk result (λ texts. AreRead (F.text files.old) limits.now (map string_bytes names.now) texts) }
     ensures readable { OnOk result (AreReadable (F.unreadable files.old) (map string_bytes names.now)) }
-    ensures through { OnOk result (Noted (F.log files.old) (F.log files.new) (AreReadThrough limits.now (map string_bytes names.now))) }
+    ensures through { OnOk result (AddsNotesOf (F.log files.old) (F.log files.new) (AreReadThrough limits.now (map string_bytes names.now))) }
     ensures failed { IsErrOf result OutStop.Fault
-        → Noted (F.log files.old) (F.log files.new) (AreReadToFault limits.now (map string_bytes names.now)) }
+        → AddsNotesOf (F.log files.old) (F.log files.new) (AreReadToFault limits.now (map string_bytes names.now)) }
     ensures cut { IsErrOf result OutStop.NoMemory
-        → Noted (F.log files.old) (F.log files.new) (AreReadToCut limits.now (map string_bytes names.now)) }
+        → AddsNotesOf (F.log files.old) (F.log files.new) (AreReadToCut limits.now (map string_bytes names.now)) }
     ensures rose { IsErrOf result OutStop.Fault
         → RoseAmong (F.read_faults files.old) (F.read_faults files.new) (map string_bytes names.now) }
     ensures same { OnOk result (SameFiles
-        (files_seen (F.text files.old) (F.unreadable files.old) (F.log files.old) (F.read_faults files.old) (F.write_faults files.old))
-        (files_seen (F.text files.new) (F.unreadable files.new) (F.log files.new) (F.read_faults files.new) (F.write_faults files.new))) }
+        (files_view (F.text files.old) (F.unreadable files.old) (F.log files.old) (F.read_faults files.old) (F.write_faults files.old))
+        (files_view (F.text files.new) (F.unreadable files.new) (F.log files.new) (F.read_faults files.new) (F.write_faults files.new))) }
     ensures no_memory { IsErrOf result OutStop.NoMemory → SameFiles
-        (files_seen (F.text files.old) (F.unreadable files.old) (F.log files.old) (F.read_faults files.old) (F.write_faults files.old))
-        (files_seen (F.text files.new) (F.unreadable files.new) (F.log files.new) (F.read_faults files.new) (F.write_faults files.new)) }
+        (files_view (F.text files.old) (F.unreadable files.old) (F.log files.old) (F.read_faults files.old) (F.write_faults files.old))
+        (files_view (F.text files.new) (F.unreadable files.new) (F.log files.new) (F.read_faults files.new) (F.write_faults files.new)) }
     ensures texts { SameTexts (F.text files.old) (F.text files.new) }
     ensures unreadables { (other : Listed ℕ) → F.unreadable files.new other ≡ F.unreadable files.old other }
-    ensures reads { Later (F.read_faults files.old) (F.read_faults files.new) }
-    ensures writes { Later (F.write_faults files.old) (F.write_faults files.new) }
+    ensures reads { NoneFell (F.read_faults files.old) (F.read_faults files.new) }
+    ensures writes { NoneFell (F.write_faults files.old) (F.write_faults files.new) }
 {
     let mut texts = List::new(alloc);
     for at in 0..limits.len() {

@@ -1,13 +1,10 @@
 //! A text that was made whole, given out in pieces.
 ghost use Rattle.std.specs.Prelude.{◌≡◌};
 
-use crate::{Finish, Printer};
+use crate::{Finish, LONGEST_PIECE, Printer};
 use esi_base::{NoMemory, Octets};
 
-/// The most octets of a piece.
-const PIECE: usize = 65_536;
-
-/// A text that was made whole, and the finish behind it.
+/// A text that was made whole, and the finish after it.
 #[derive(Debug, Drop)]
 pub struct WholeText {
     text: Octets,
@@ -18,7 +15,7 @@ pub struct WholeText {
 impl WholeText {
     ghost use Rattle.command_runs.specs.WholeText.{text_left, text_finish};
 
-    /// The whole of a text, and the finish behind it. It takes no memory.
+    /// The whole of a text, and the finish after it. It takes no memory.
     pub fn new(text: Octets, finish: Finish) -> WholeText
         ensures left { text_left result ≡ text }
         ensures finish { text_finish result ≡ finish }
@@ -40,7 +37,7 @@ impl Printer for WholeText {
 
     fn next(&mut self, piece: &mut Octets) -> Result<(), NoMemory> {
         let given = self.given.min(self.text.len());
-        let count = (self.text.len() - given).min(PIECE);
+        let count = (self.text.len() - given).min(LONGEST_PIECE);
         if count > 0 {
             piece.push_all(&self.text.as_slice()[given..given + count])?;
             self.given = given + count;

@@ -1,12 +1,10 @@
 //! What a command makes of the texts of its files.
 ghost use Rattle.std.specs.Prelude.{◌≡◌};
-ghost use Rattle.command_runs.specs.declared.work.WorkStop.TheVariants.{NoMemory as work_no_memory};
-ghost use Rattle.command_runs.specs.Work.{suffix_text, blamed_at};
+ghost use Rattle.command_runs.specs.Work.{suffix_text, stop_in_file};
 
-use esi_base::{NoMemory, Octets, Refusal, Stop};
-use std::alloc::{AllocError, AllocFailed};
+use esi_base::{Octets, Refusal, Stop};
 
-/// What stands behind a word of the command line in the name of a file that is written.
+/// What stands after a word of the command line in the name of a file that is written.
 #[derive(Clone, Copy, Debug, PartialEq, Eq)]
 pub enum Suffix {
     /// Nothing: the word is the name.
@@ -30,7 +28,7 @@ impl Suffix {
     }
 }
 
-/// A file that a command writes: its name is the word at this place, from 0, among the words behind
+/// A file that a command writes: its name is the word with this number, from 0, among the words after
 /// the command, followed by the suffix.
 #[derive(Clone, Copy, Debug, PartialEq, Eq)]
 pub struct Target {
@@ -45,53 +43,23 @@ pub struct FileText {
     pub text: Octets,
 }
 
-/// A text is refused: the place of its file's name, from 0, among the words behind the command, and
+/// A text is refused: the number of its file's name, from 0, among the words after the command, and
 /// the refusal.
 #[derive(Clone, Copy, Debug, PartialEq, Eq)]
-pub struct Blamed {
+pub struct FileRefusal {
     pub word: u32,
     pub refusal: Refusal,
 }
 
-/// Why a command's work stopped.
-#[derive(Clone, Copy, Debug, PartialEq, Eq)]
-pub enum WorkStop {
-    /// A text is refused.
-    Refused(Blamed),
-    /// Memory could not be had.
-    NoMemory,
-}
+/// Why a command's work stopped: a text is refused, or it ran out of memory.
+pub type WorkStop = Stop<FileRefusal>;
 
-/// What a reader's stop is for the work: a refusal blames the file at this word.
-pub fn blame(word: u32, stop: Stop) -> WorkStop
-    ensures { result ≡ blamed_at word stop }
+/// What a reader's stop is for the work: a refusal is of the file that this word names.
+pub fn stop_in_file(word: u32, stop: Stop) -> WorkStop
+    ensures { result ≡ stop_in_file word stop }
 {
     match stop {
-        Stop::Refused(refusal) => WorkStop::Refused(Blamed { word, refusal }),
-        Stop::NoMemory => WorkStop::NoMemory,
-    }
-}
-
-impl From<AllocError> for WorkStop {
-    ghost from_gives = { λ _ e. e ≡ work_no_memory };
-
-    fn from(_error: AllocError) -> WorkStop {
-        WorkStop::NoMemory
-    }
-}
-
-impl From<NoMemory> for WorkStop {
-    ghost from_gives = { λ _ e. e ≡ work_no_memory };
-
-    fn from(_error: NoMemory) -> WorkStop {
-        WorkStop::NoMemory
-    }
-}
-
-impl<T: Drop> From<AllocFailed<T>> for WorkStop {
-    ghost from_gives = { λ _ e. e ≡ work_no_memory };
-
-    fn from(_failed: AllocFailed<T>) -> WorkStop {
-        WorkStop::NoMemory
+        Stop::Refused(refusal) => Stop::Refused(FileRefusal { word, refusal }),
+        Stop::NoMemory => Stop::NoMemory,
     }
 }

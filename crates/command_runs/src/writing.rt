@@ -1,14 +1,14 @@
 //! The files that a command writes.
 ghost use Rattle.std.specs.Prelude.{◌≡◌, ◌<◌, ◌++◌, ◌∷◌, [], List, length, map, string_bytes, IfOk, OnOk, IsErrOf};
 ghost use Rattle.command_runs.specs.Account.{AreNamed};
-ghost use Rattle.command_runs.specs.Carried.{target_name, PutsText, PutsTexts, FailsToPut, FailsAtFile, LacksAtFile};
-ghost use Rattle.command_runs.specs.Outside.{files_seen, SameFiles};
+ghost use Rattle.command_runs.specs.CarryOut.{target_name, PutsText, PutsTexts, FailsToPut, FailsAtFile, LacksAtFile};
+ghost use Rattle.command_runs.specs.Outside.{files_view, SameFiles};
 
 use crate::{FileText, Target};
 use esi_links::{Files, OutStop};
 use std::alloc::{AllocError, Global};
 
-/// Writes files, in order, none behind one that was not written. `names` are the words behind the
+/// Writes files, in order, none after one that was not written. `names` are the words after the
 /// command.
 pub(crate) fn write_files<F: Files>(
     alloc: Global,
@@ -18,14 +18,14 @@ pub(crate) fn write_files<F: Files>(
 ) -> Result<(), OutStop>
     requires { AreNamed (length names.now) written.now }
     ensures written { OnOk result (PutsTexts (map string_bytes names.now) written.now
-        (files_seen (F.text files.old) (F.unreadable files.old) (F.log files.old) (F.read_faults files.old) (F.write_faults files.old))
-        (files_seen (F.text files.new) (F.unreadable files.new) (F.log files.new) (F.read_faults files.new) (F.write_faults files.new))) }
+        (files_view (F.text files.old) (F.unreadable files.old) (F.log files.old) (F.read_faults files.old) (F.write_faults files.old))
+        (files_view (F.text files.new) (F.unreadable files.new) (F.log files.new) (F.read_faults files.new) (F.write_faults files.new))) }
     ensures failed { IsErrOf result OutStop.Fault → FailsAtFile (map string_bytes names.now) written.now
-        (files_seen (F.text files.old) (F.unreadable files.old) (F.log files.old) (F.read_faults files.old) (F.write_faults files.old))
-        (files_seen (F.text files.new) (F.unreadable files.new) (F.log files.new) (F.read_faults files.new) (F.write_faults files.new)) }
+        (files_view (F.text files.old) (F.unreadable files.old) (F.log files.old) (F.read_faults files.old) (F.write_faults files.old))
+        (files_view (F.text files.new) (F.unreadable files.new) (F.log files.new) (F.read_faults files.new) (F.write_faults files.new)) }
     ensures no_memory { IsErrOf result OutStop.NoMemory → LacksAtFile (map string_bytes names.now) written.now
-        (files_seen (F.text files.old) (F.unreadable files.old) (F.log files.old) (F.read_faults files.old) (F.write_faults files.old))
-        (files_seen (F.text files.new) (F.unreadable files.new) (F.log files.new) (F.read_faults files.new) (F.write_faults files.new)) }
+        (files_view (F.text files.old) (F.unreadable files.old) (F.log files.old) (F.read_faults files.old) (F.write_faults files.old))
+        (files_view (F.text files.new) (F.unreadable files.new) (F.log files.new) (F.read_faults files.new) (F.write_faults files.new)) }
     ensures log { F.log files.new ≡ F.log files.old }
 {
     for file in written {
@@ -43,14 +43,14 @@ fn write_file<F: Files>(
 ) -> Result<(), OutStop>
     requires { file.now.target.word < length names.now }
     ensures written { OnOk result (PutsText (target_name (map string_bytes names.now) file.now.target) file.now.text
-        (files_seen (F.text files.old) (F.unreadable files.old) (F.log files.old) (F.read_faults files.old) (F.write_faults files.old))
-        (files_seen (F.text files.new) (F.unreadable files.new) (F.log files.new) (F.read_faults files.new) (F.write_faults files.new))) }
+        (files_view (F.text files.old) (F.unreadable files.old) (F.log files.old) (F.read_faults files.old) (F.write_faults files.old))
+        (files_view (F.text files.new) (F.unreadable files.new) (F.log files.new) (F.read_faults files.new) (F.write_faults files.new))) }
     ensures failed { IsErrOf result OutStop.Fault → FailsToPut (target_name (map string_bytes names.now) file.now.target)
-        (files_seen (F.text files.old) (F.unreadable files.old) (F.log files.old) (F.read_faults files.old) (F.write_faults files.old))
-        (files_seen (F.text files.new) (F.unreadable files.new) (F.log files.new) (F.read_faults files.new) (F.write_faults files.new)) }
+        (files_view (F.text files.old) (F.unreadable files.old) (F.log files.old) (F.read_faults files.old) (F.write_faults files.old))
+        (files_view (F.text files.new) (F.unreadable files.new) (F.log files.new) (F.read_faults files.new) (F.write_faults files.new)) }
     ensures no_memory { IsErrOf result OutStop.NoMemory → SameFiles
-        (files_seen (F.text files.old) (F.unreadable files.old) (F.log files.old) (F.read_faults files.old) (F.write_faults files.old))
-        (files_seen (F.text files.new) (F.unreadable files.new) (F.log files.new) (F.read_faults files.new) (F.write_faults files.new)) }
+        (files_view (F.text files.old) (F.unreadable files.old) (F.log files.old) (F.read_faults files.old) (F.write_faults files.old))
+        (files_view (F.text files.new) (F.unreadable files.new) (F.log files.new) (F.read_faults files.new) (F.write_faults files.new)) }
     ensures log { F.log files.new ≡ F.log files.old }
 {
     let name = file_name(alloc, names, file.target)?;

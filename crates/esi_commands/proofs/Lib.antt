@@ -1,4 +1,4 @@
-mod DrivesLemmas
-mod JudgedLemmas
+mod ActionLemmas
+mod InputLemmas
 mod LineLemmas
 mod TableLemmas

@@ -7,8 +7,8 @@ use Rattle.std.proofs.lemmas.Grind.{flat_map-append}
 use Rattle.std.proofs.lemmas.List.{append-nil, drop_all, drop-drop, length-drop, take-append-drop, take_all}
 use Rattle.small_text.specs.Hexadecimal.{hex_of}
 use Rattle.esi_base.specs.Octets.{octets_of}
-use Rattle.cycle_rules.specs.declared.step.Moved.{Moved}
-use Rattle.cycle_rules.specs.Stimulated.{Simulation}
+use Rattle.cycle_rules.specs.declared.transfer.Transfer.{Transfer}
+use Rattle.cycle_rules.specs.Simulation.{Simulation}
 use Rattle.esi_commands.specs.Output.{got_line, done_line, text_left}
 
 length-hex_of : (octets : List ℕ) → length (hex_of octets) ≡ 2 * length octets
@@ -20,9 +20,9 @@ length-hex_of (octet ∷ octets) = let e = length-hex_of octets in omega arith
 number_length : (n : ℕ) → n < 2 ^ 64 → length (decimal n) ≤ 20
 number_length n h = length-decimal-le 20 n (omega arith) (omega arith) h
 
-pub got_length : (moved : Moved) → moved.cycle < 2 ^ 64 → length (octets_of moved.word) ≤ 128 → length (got_line moved) ≤ 300
-got_length moved cycle few =
-    simp length-append (omega (arith, number_length moved.cycle cycle, length-hex_of (octets_of moved.word)))
+pub got_length : (transfer : Transfer) → transfer.cycle < 2 ^ 64 → length (octets_of transfer.word) ≤ 128 → length (got_line transfer) ≤ 300
+got_length transfer cycle few =
+    simp length-append (omega (arith, number_length transfer.cycle cycle, length-hex_of (octets_of transfer.word)))
 
 pub done_length : {S : Type 0} (sim : Simulation S) → sim.cycles < 2 ^ 64 → length sim.taken < 2 ^ 64 → length sim.handed < 2 ^ 64 → length (done_line sim) ≤ 300
 done_length sim cycles taken handed =
@@ -43,19 +43,19 @@ done_pieces cycles taken handed cycles' taken' handed' p q r =
 -- ---- the lines that are left
 
 -- the lines of some values stand before those of the others
-lines_split : (handed : List Moved) (printed count : ℕ) (rest : List ℕ)
+lines_split : (handed : List Transfer) (printed count : ℕ) (rest : List ℕ)
     → flat_map got_line (drop printed handed) ++ rest ≡ flat_map got_line (take count (drop printed handed)) ++ (flat_map got_line (drop (printed + count) handed) ++ rest)
 lines_split handed printed count rest =
-    ap (λ (moves : List Moved). flat_map got_line moves ++ rest) (sym (take-append-drop count (drop printed handed)))
+    ap (λ (transfers : List Transfer). flat_map got_line transfers ++ rest) (sym (take-append-drop count (drop printed handed)))
     ∙ ap (λ (lines : List ℕ). lines ++ rest) (flat_map-append got_line (take count (drop printed handed)) (drop count (drop printed handed)))
     ∙ append_assoc (flat_map got_line (take count (drop printed handed))) (flat_map got_line (drop count (drop printed handed))) rest
-    ∙ ap (λ (moves : List Moved). flat_map got_line (take count (drop printed handed)) ++ (flat_map got_line moves ++ rest)) (drop-drop count printed handed)
+    ∙ ap (λ (transfers : List Transfer). flat_map got_line (take count (drop printed handed)) ++ (flat_map got_line transfers ++ rest)) (drop-drop count printed handed)
 
--- what stands behind some values, cut at the end, is what stands behind them
-pub behind_all : (piece : List ℕ) (handed : List Moved) (printed count : ℕ) → piece ≡ flat_map got_line (take count (take (length handed - printed) (drop printed handed)))
+-- what stands after some values, cut at the end, is what stands after them
+pub behind_all : (piece : List ℕ) (handed : List Transfer) (printed count : ℕ) → piece ≡ flat_map got_line (take count (take (length handed - printed) (drop printed handed)))
     → piece ≡ flat_map got_line (take count (drop printed handed))
 behind_all piece handed printed count lines =
-    lines ∙ ap (λ (moves : List Moved). flat_map got_line (take count moves)) (take_all (length handed - printed) (drop printed handed) (omega (arith, length-drop printed handed)))
+    lines ∙ ap (λ (transfers : List Transfer). flat_map got_line (take count transfers)) (take_all (length handed - printed) (drop printed handed) (omega (arith, length-drop printed handed)))
 
 -- the lines in a piece stand before those that are left then,
 pub piece_more : {S : Type 0} (sim : Simulation S) (printed : ℕ) (is_done : Bool) (piece : List ℕ) (count : ℕ) → is_done ≡ false → piece ≡ flat_map got_line (take count (drop printed sim.handed))
@@ -69,13 +69,13 @@ pub piece_last : {S : Type 0} (sim : Simulation S) (printed : ℕ) (is_done : Bo
 piece_last sim printed is_done piece count not_done lines at_end =
     piece_more sim printed is_done piece count not_done lines
     ∙ ap (λ d. piece ++ text_left sim (printed + count) d) not_done
-    ∙ ap (λ (moves : List Moved). piece ++ (flat_map got_line moves ++ done_line sim)) (drop_all (printed + count) sim.handed at_end)
+    ∙ ap (λ (transfers : List Transfer). piece ++ (flat_map got_line transfers ++ done_line sim)) (drop_all (printed + count) sim.handed at_end)
 
 -- something is left until all was printed
 pub some_left : {S : Type 0} (sim : Simulation S) (printed : ℕ) (is_done : Bool) (behind : List ℕ) → is_done ≡ false → 0 < length (text_left sim printed is_done ++ behind)
 some_left sim printed true behind not_done = absurd (cc not_done)
 some_left sim printed false behind not_done = simp length-append (omega arith)
 
--- what was left is the whole piece, and nothing behind it
-pub whole_piece : (left piece front last : List ℕ) → piece ≡ front ++ last → left ≡ front ++ last → left ≡ piece ++ []
-whole_piece left piece front last is all = all ∙ sym is ∙ sym (append-nil piece)
+-- what was left is the whole piece, and nothing after it
+pub whole_piece : (left piece prefix last : List ℕ) → piece ≡ prefix ++ last → left ≡ prefix ++ last → left ≡ piece ++ []
+whole_piece left piece prefix last is all = all ∙ sym is ∙ sym (append-nil piece)

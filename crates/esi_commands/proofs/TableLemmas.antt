@@ -7,7 +7,7 @@ use Rattle.std.proofs.lemmas.List.{length-map, take_all}
 use Rattle.command_runs.specs.declared.outcome.Outcome.{Outcome}
 use Rattle.command_runs.specs.Account.{Account, Among}
 use Rattle.command_runs.specs.Outside.{Outside}
-use Rattle.command_runs.specs.Ran.{Ran, Runs, ToldUsage}
+use Rattle.command_runs.specs.Ran.{Ran, Runs, PrintsUsage}
 use Rattle.esi_commands.specs.Table.{Row, EachRow, Matches, MatchesNone, MatchesAt, OneRow, RunsWords, names_of, table}
 
 -- ---- each row has a word of its own
@@ -142,11 +142,11 @@ module _ (before now : Outside) (outcome : Outcome) where
       }
 
   -- words that match no row, where the usage was told
-  pub told_usage : (rows : List Row) (words : List (List ℕ)) → MatchesNone rows words → ToldUsage before now outcome → RunsWords rows words before now outcome
-  told_usage rows words none told = record { matched = none_runs rows words none; unmatched = λ nothing. told; usage = λ one. none }
+  pub usage_printed : (rows : List Row) (words : List (List ℕ)) → MatchesNone rows words → PrintsUsage before now outcome → RunsWords rows words before now outcome
+  usage_printed rows words none told = record { matched = none_runs rows words none; unmatched = λ nothing. told; usage = λ one. none }
 
-  pub told_other : (rows : List Row) (word : List ℕ) (names : List (List ℕ)) → IsNoWord word rows → ToldUsage before now outcome → RunsWords rows (word ∷ names) before now outcome
-  told_other rows word names none told = told_usage rows (word ∷ names) (other_rows rows word names none) told
+  pub other_printed : (rows : List Row) (word : List ℕ) (names : List (List ℕ)) → IsNoWord word rows → PrintsUsage before now outcome → RunsWords rows (word ∷ names) before now outcome
+  other_printed rows word names none told = usage_printed rows (word ∷ names) (other_rows rows word names none) told
 
 -- ---- the table
 

@@ -1,5 +1,6 @@
 pub mod Texts
-pub mod Judged
+pub mod SimulationRules
+pub mod Inputs
 pub mod Output
 pub mod Cuts
 pub mod Format

@@ -3,12 +3,15 @@
 #![tactic(auto)]
 
 pub mod format;
-mod judge;
+mod input;
+pub mod limits;
 mod output;
 pub mod program;
 pub mod sim;
+pub mod simulation_rule;
 mod top_call;
 
 pub use format::run_format;
 pub use sim::run_sim;
+pub use simulation_rule::SimulationRule;
 pub use top_call::{one_row_law, run};

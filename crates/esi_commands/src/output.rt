@@ -1,15 +1,15 @@
 //! What a simulation prints, in pieces.
 ghost use Rattle.std.specs.Prelude.{◌≡◌, ◌<◌, ◌≤◌, ◌+◌, ◌++◌, ◌↔◌, [], length, take, string_bytes, IsTrue, IfOk, OnOk};
 ghost use Rattle.std.specs.List.{flat_map};
-ghost use Rattle.cycle_rules.specs.One.{simulation_of};
+ghost use Rattle.cycle_rules.specs.PipeSimulation.{simulation_of};
 ghost use Rattle.esi_base.specs.Octets.{octets_of};
 ghost use Rattle.small_text.specs.Hexadecimal.{hex_of};
 ghost use Rattle.command_runs.specs.Work.{all_done};
 ghost use Rattle.esi_commands.specs.Output.{got_line, done_line, text_of, text_left};
 
 use bit_packing::to_octets;
-use command_runs::{Finish, Printer};
-use cycle_rules::Moved;
+use command_runs::{Finish, LONGEST_PIECE, Printer};
+use cycle_rules::Transfer;
 use esi_base::{NoMemory, Octets, Word};
 use pipe_cells::Pipe;
 use small_text::push_hex;
@@ -18,12 +18,13 @@ use std::alloc::{AllocError, Global};
 /// The most octets of a word.
 const MOST_OCTETS: usize = 128;
 
-/// The most octets of a piece.
-const PIECE: usize = 65_536;
-
 /// No line is longer, in octets: a `got` line has two digits for each octet of its word, a cycle of at
 /// most 20 digits and ten octets more; a `done` line has three numbers and 28 octets more.
 const LONGEST_LINE: usize = 300;
+
+const _: () = prove!(MOST_OCTETS == 128);
+
+const _: () = prove!(LONGEST_LINE == 300);
 
 /// The lines of a simulation that are still to be printed: a `got` line for each value handed, in
 /// order, and the `done` line. Each is made when its piece is asked for.
@@ -80,38 +81,38 @@ impl Printer for SimulationLines {
 
 /// Whether a piece has room for one more line, whichever it is.
 fn has_room(piece: &Octets) -> bool
-    ensures { IsTrue result ↔ (length piece.now + LONGEST_LINE ≤ PIECE) }
+    ensures { IsTrue result ↔ (length piece.now + LONGEST_LINE ≤ LONGEST_PIECE) }
 {
-    piece.len() <= PIECE - LONGEST_LINE
+    piece.len() <= LONGEST_PIECE - LONGEST_LINE
 }
 
 /// Puts the `got` lines of the first values into a piece, as many as there is room for, and answers how
 /// many these are.
-fn push_got_lines(alloc: Global, handed: &[Moved], piece: &mut Octets) -> Result<usize, NoMemory>
+fn push_got_lines(alloc: Global, handed: &[Transfer], piece: &mut Octets) -> Result<usize, NoMemory>
     requires { piece.old ≡ [] }
     ensures lines { IfOk result (λ count. piece.new ≡ flat_map got_line (take count handed.now)) }
     ensures count { IfOk result (λ count. count ≤ length handed.now) }
-    ensures bound { OnOk result (length piece.new ≤ PIECE) }
+    ensures bound { OnOk result (length piece.new ≤ LONGEST_PIECE) }
     ensures stopped { IfOk result (λ count. count < length handed.now → 0 < length piece.new) }
 {
-    for (count, moved) in handed.iter().enumerate() {
+    for (count, transfer) in handed.iter().enumerate() {
         if !has_room(piece) {
             return Ok(count);
         }
-        push_got_line(alloc, piece, moved)?;
+        push_got_line(alloc, piece, transfer)?;
     }
     Ok(handed.len())
 }
 
 /// `got CYCLE NAME OCTETS`
-fn push_got_line(alloc: Global, text: &mut Octets, moved: &Moved) -> Result<(), NoMemory>
-    ensures line { OnOk result (text.new ≡ text.old ++ got_line moved.now) }
-    ensures short { OnOk result (length (got_line moved.now) ≤ LONGEST_LINE) }
+fn push_got_line(alloc: Global, text: &mut Octets, transfer: &Transfer) -> Result<(), NoMemory>
+    ensures line { OnOk result (text.new ≡ text.old ++ got_line transfer.now) }
+    ensures short { OnOk result (length (got_line transfer.now) ≤ LONGEST_LINE) }
 {
-    let cycle = moved.cycle;
+    let cycle = transfer.cycle;
     let head = format!(in alloc; "got {cycle} out ")?;
     text.push_all(head.as_str().as_bytes())?;
-    push_octets(text, &moved.word)?;
+    push_octets(text, &transfer.word)?;
     text.push_all(b"\n")?;
     Ok(())
 }
@@ -127,7 +128,7 @@ fn push_octets(text: &mut Octets, word: &Word) -> Result<(), NoMemory>
     push_hex(text, octets)
 }
 
-/// Puts the `done` line behind a piece.
+/// Puts the `done` line after a piece.
 fn push_done_line(alloc: Global, pipe: &Pipe, text: &mut Octets) -> Result<(), NoMemory>
     ensures line { OnOk result (text.new ≡ text.old ++ done_line (simulation_of pipe.now)) }
     ensures short { OnOk result (length (done_line (simulation_of pipe.now)) ≤ LONGEST_LINE) }

@@ -12,7 +12,7 @@ use std::alloc::Global;
 use std::io;
 use std::process::ExitCode;
 
-/// The words of a command: the arguments behind the first, which is the program's own name. Arguments
+/// The words of a command: the arguments after the first, which is the program's own name. Arguments
 /// that are no text are no words at all, so that they match no command.
 pub fn command_words<I: Iterator<Item = String> + Drop>(
     alloc: Global,
@@ -31,7 +31,7 @@ pub fn command_words<I: Iterator<Item = String> + Drop>(
     }
 }
 
-/// The arguments behind the first.
+/// The arguments after the first.
 fn words_behind<I: Iterator<Item = String> + Drop>(
     alloc: Global,
     arguments: I,

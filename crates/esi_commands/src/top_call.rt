@@ -1,6 +1,6 @@
 //! The top call: one command, from its words to its outcome.
 ghost use Rattle.std.specs.Prelude.{◌≡◌, ◌∷◌, false, map, string_bytes};
-ghost use Rattle.command_runs.specs.Outside.{files_seen, outside, sink_seen};
+ghost use Rattle.command_runs.specs.Outside.{outside_of};
 ghost use Rattle.esi_commands.specs.Table.{OneRow, RunsWords, table};
 
 use crate::format::run_format;
@@ -9,7 +9,7 @@ use command_runs::{Ending, Outcome, conclude};
 use esi_links::{Files, Links, Sink};
 use std::alloc::Global;
 
-/// Runs the command that the words ask for; they are the words behind the program's name. Files are
+/// Runs the command that the words ask for; they are the words after the program's name. Files are
 /// read and written through `files`, what the command prints goes to `out`, the status's line to
 /// `err`, and connections come over `links`, which are not started.
 pub fn run<F: Files, O: Sink, E: Sink, L: Links>(
@@ -24,10 +24,7 @@ pub fn run<F: Files, O: Sink, E: Sink, L: Links>(
 
     // The command whose row the words match was run, or the usage line was written.
     ensures runs { RunsWords table (map string_bytes words.now)
-        (outside (files_seen (F.text files.old) (F.unreadable files.old) (F.log files.old) (F.read_faults files.old) (F.write_faults files.old))
-        (sink_seen (O.octets out.old) (O.faults out.old)) (sink_seen (E.octets err.old) (E.faults err.old)))
-        (outside (files_seen (F.text files.new) (F.unreadable files.new) (F.log files.new) (F.read_faults files.new) (F.write_faults files.new))
-        (sink_seen (O.octets out.new) (O.faults out.new)) (sink_seen (E.octets err.new) (E.faults err.new))) result }
+        (outside_of F.Files O.Sink E.Sink files.old out.old err.old) (outside_of F.Files O.Sink E.Sink files.new out.new err.new) result }
     ensures links { links.new ≡ links.old }
 {
     match words {
@@ -36,7 +33,7 @@ pub fn run<F: Files, O: Sink, E: Sink, L: Links>(
     }
 }
 
-/// Runs the command with this word, on the words behind it.
+/// Runs the command with this word, on the words after it.
 fn run_named<F: Files, O: Sink, E: Sink>(
     alloc: Global,
     command: &str,
@@ -46,10 +43,7 @@ fn run_named<F: Files, O: Sink, E: Sink>(
     err: &mut E,
 ) -> Outcome
     ensures { RunsWords table (command.now ∷ map string_bytes names.now)
-        (outside (files_seen (F.text files.old) (F.unreadable files.old) (F.log files.old) (F.read_faults files.old) (F.write_faults files.old))
-        (sink_seen (O.octets out.old) (O.faults out.old)) (sink_seen (E.octets err.old) (E.faults err.old)))
-        (outside (files_seen (F.text files.new) (F.unreadable files.new) (F.log files.new) (F.read_faults files.new) (F.write_faults files.new))
-        (sink_seen (O.octets out.new) (O.faults out.new)) (sink_seen (E.octets err.new) (E.faults err.new))) result }
+        (outside_of F.Files O.Sink E.Sink files.old out.old err.old) (outside_of F.Files O.Sink E.Sink files.new out.new err.new) result }
 {
     if command == "sim" {
         return run_sim(alloc, names, files, out, err);

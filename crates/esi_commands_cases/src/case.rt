@@ -24,7 +24,7 @@ pub enum Outside {
 /// A case. Its lines, in any number and order:
 ///
 /// - `case TITLE`, `words WORD WORD ..`
-/// - `file NAME`, and behind it its text: `> TEXT` a line with LF, `| TEXT` the same without LF,
+/// - `file NAME`, and after it its text: `> TEXT` a line with LF, `| TEXT` the same without LF,
 ///   `blanks N` so many blanks
 /// - `fails read N`, `fails out N`, `fails err N`: the call with this number, from 0
 /// - `sure`: over files and sinks that never fail

@@ -1,11 +1,11 @@
-//! Runs commands over files and sinks in memory, and prints what each printed, told and answered. The
+//! Runs commands over files and sinks in memory, and prints what each printed, reported and answered. The
 //! cases stand on standard input.
 #![tactic(auto)]
 
 mod case;
 mod narrow_sink;
+mod printing;
 mod running;
-mod telling;
 
 use crate::case::Case;
 use crate::running::run_case;

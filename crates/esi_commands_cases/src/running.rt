@@ -1,7 +1,7 @@
-//! Cases are run, and told.
+//! Runs cases, and prints what came of them.
 use crate::case::{Case, Outside};
 use crate::narrow_sink::NarrowSink;
-use crate::telling::{tell_outcome, tell_reads, tell_text};
+use crate::printing::{print_outcome, print_reads, print_text};
 use command_runs::Outcome;
 use esi_base::{List, NoMemory};
 use esi_commands::run;
@@ -29,40 +29,40 @@ pub fn run_case(rt: &(impl Print + AllocGlobal), case: &Case) -> io::Result<()> 
 /// Runs a case over files and sinks of which chosen calls fail.
 fn over_failing(rt: &(impl Print + AllocGlobal), case: &Case) -> io::Result<()> {
     let alloc = rt.alloc();
-    let mut files = NotingFiles::new(alloc, memory_files(alloc, case).map_err(told)?);
-    let mut out = memory_sink(alloc, &case.failing_out).map_err(told)?;
-    let mut err = memory_sink(alloc, &case.failing_err).map_err(told)?;
+    let mut files = NotingFiles::new(alloc, memory_files(alloc, case).map_err(memory_error)?);
+    let mut out = memory_sink(alloc, &case.failing_out).map_err(memory_error)?;
+    let mut err = memory_sink(alloc, &case.failing_err).map_err(memory_error)?;
     let outcome = run_words(alloc, case, &mut files, &mut out, &mut err);
-    tell_outcome(rt, &outcome)?;
-    tell_text(rt, "out", out.written())?;
-    tell_text(rt, "err", err.written())?;
-    tell_reads(rt, files.notes())
+    print_outcome(rt, &outcome)?;
+    print_text(rt, "out", out.written())?;
+    print_text(rt, "err", err.written())?;
+    print_reads(rt, files.notes())
 }
 
 /// Runs a case over an `out` that fills up.
 fn over_narrow(rt: &(impl Print + AllocGlobal), case: &Case, room: usize) -> io::Result<()> {
     let alloc = rt.alloc();
-    let mut files = NotingFiles::new(alloc, memory_files(alloc, case).map_err(told)?);
+    let mut files = NotingFiles::new(alloc, memory_files(alloc, case).map_err(memory_error)?);
     let mut out = NarrowSink::new(alloc, room);
-    let mut err = memory_sink(alloc, &case.failing_err).map_err(told)?;
+    let mut err = memory_sink(alloc, &case.failing_err).map_err(memory_error)?;
     let outcome = run_words(alloc, case, &mut files, &mut out, &mut err);
-    tell_outcome(rt, &outcome)?;
-    tell_text(rt, "out", out.written())?;
-    tell_text(rt, "err", err.written())?;
-    tell_reads(rt, files.notes())
+    print_outcome(rt, &outcome)?;
+    print_text(rt, "out", out.written())?;
+    print_text(rt, "err", err.written())?;
+    print_reads(rt, files.notes())
 }
 
 /// Runs a case over files and sinks that never fail.
 fn over_sure(rt: &(impl Print + AllocGlobal), case: &Case) -> io::Result<()> {
     let alloc = rt.alloc();
-    let mut files = NotingFiles::new(alloc, sure_files(alloc, case).map_err(told)?);
+    let mut files = NotingFiles::new(alloc, sure_files(alloc, case).map_err(memory_error)?);
     let mut out = SureSink::new(alloc);
     let mut err = SureSink::new(alloc);
     let outcome = run_words(alloc, case, &mut files, &mut out, &mut err);
-    tell_outcome(rt, &outcome)?;
-    tell_text(rt, "out", out.written())?;
-    tell_text(rt, "err", err.written())?;
-    tell_reads(rt, files.notes())
+    print_outcome(rt, &outcome)?;
+    print_text(rt, "out", out.written())?;
+    print_text(rt, "err", err.written())?;
+    print_reads(rt, files.notes())
 }
 
 /// The case's files, of which chosen reads fail.
@@ -92,8 +92,8 @@ fn memory_sink(alloc: Global, failing: &List<u64>) -> Result<MemorySink, NoMemor
     Ok(MemorySink::new(alloc, failing))
 }
 
-/// Want of memory, as an error of the program.
-fn told(_stop: NoMemory) -> io::Error {
+/// Out of memory, as an error of the program.
+fn memory_error(_stop: NoMemory) -> io::Error {
     io::Error::from(io::ErrorKind::OutOfMemory)
 }
 

@@ -1,9 +1,9 @@
--- How growths join: one write after another, and the front that is left where the second fails.
+-- How growths join: one write after another, and the prefix that is left where the second fails.
 use Rattle.std.proofs.Common.{◌≡◌, ℕ, ◌+◌, ◌-◌, ◌<◌, ◌≤◌, List, [], ◌++◌, Option, Some, None, length, take, drop, refl, sym, ap, append_assoc, append-nil, length-append, arith}
 use Rattle.std.specs.Option.{option_map}
 use Rattle.std.proofs.lemmas.List.{take_rest, take-append-le}
 use Rattle.std.proofs.Math.Seq.{take-add, take-append-add}
-use Rattle.esi_links.specs.Growth.{Grows, GrowsByFront}
+use Rattle.esi_links.specs.Growth.{Grows, GrowsByPrefix}
 
 -- two growths, one after the other, on what is told
 told_join : (before now after : Option (List ℕ)) (first second : List ℕ)
@@ -21,26 +21,26 @@ pub grows_join : {before now after : Option (List ℕ)} {first second : List ℕ
 grows_join {before} {now} {after} {first} {second} grown more =
     record { told = told_join before now after first second grown.told more.told }
 
--- a write that took all, then one that failed: a front of both that is not the whole
-pub grows_by_front_join : {before now after : Option (List ℕ)} {first second : List ℕ}
-    → Grows before now first → GrowsByFront now after second
-    → GrowsByFront before after (first ++ second)
-grows_by_front_join {before} {now} {after} {first} {second} grown front =
+-- a write that took all, then one that failed: a prefix of both that is not the whole
+pub grows_by_prefix_join : {before now after : Option (List ℕ)} {first second : List ℕ}
+    → Grows before now first → GrowsByPrefix now after second
+    → GrowsByPrefix before after (first ++ second)
+grows_by_prefix_join {before} {now} {after} {first} {second} grown prefix =
     record {
-      count = length first + front.count;
-      within = let under : front.count < length second = front.within in omega (arith, length-append first second);
-      grows = rw (take-append-add first second front.count) (grows_join grown front.grows);
+      count = length first + prefix.count;
+      within = let under : prefix.count < length second = prefix.within in omega (arith, length-append first second);
+      grows = rw (take-append-add first second prefix.count) (grows_join grown prefix.grows);
     }
 
 -- a write that failed is also one of the longer text, of which no more was written
-pub grows_by_front_longer : {before now : Option (List ℕ)} {first : List ℕ} (second : List ℕ)
-    → GrowsByFront before now first → GrowsByFront before now (first ++ second)
-grows_by_front_longer {before} {now} {first} second front =
-    let within : front.count ≤ length first = omega arith in
+pub grows_by_prefix_longer : {before now : Option (List ℕ)} {first : List ℕ} (second : List ℕ)
+    → GrowsByPrefix before now first → GrowsByPrefix before now (first ++ second)
+grows_by_prefix_longer {before} {now} {first} second prefix =
+    let within : prefix.count ≤ length first = omega arith in
     record {
-      count = front.count;
+      count = prefix.count;
       within = omega (arith, length-append first second);
-      grows = rw (take-append-le front.count first second within) front.grows;
+      grows = rw (take-append-le prefix.count first second within) prefix.grows;
     }
 
 told_none : (before : Option (List ℕ)) → before ≡ option_map (λ old. old ++ []) before
@@ -51,7 +51,7 @@ told_none (Some old) = ap Some (sym (append-nil old))
 pub grows_none : {before : Option (List ℕ)} → Grows before before []
 grows_none {before} = record { told = told_none before }
 
--- a further piece behind the first `sent` octets of a text was taken
+-- a further piece after the first `sent` octets of a text was taken
 pub grows_more : {before now after : Option (List ℕ)} (octets : List ℕ) (sent count : ℕ)
     → Grows before now (take sent octets)
     → Grows now after (take count (take (length octets - sent) (drop sent octets)))

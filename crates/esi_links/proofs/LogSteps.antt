@@ -7,7 +7,7 @@ use Rattle.esi_links.specs.declared.links.Event.{Event}
 use Rattle.esi_links.specs.declared.links.Event.TheVariants.{Idle}
 use Rattle.esi_links.specs.LinkLog.{next_event}
 
--- the event at a place is the first of those from there on
+-- the event at an index is the first of those from there on
 pub next_at : (events : List Event) (at : ℕ) (event : Event)
     → slice_get events at ≡ Some event → next_event (drop at events) ≡ event
 next_at [] at event found = cc
@@ -21,7 +21,7 @@ next_none [] (suc at) none = refl
 next_none (first ∷ rest) zero none = cc
 next_none (first ∷ rest) (suc at) none = next_none rest at none
 
--- an event that was taken leaves those behind it
+-- an event that was taken leaves those after it
 pub left_more : (events : List Event) (at : ℕ) (event : Event)
     → drop (at + 1) (slice_set events at event) ≡ drop 1 (drop at events)
 left_more events at event =

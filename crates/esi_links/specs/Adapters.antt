@@ -9,9 +9,9 @@ use Rattle.esi_links.specs.declared.std_sink.StdSink.{StdSink}
 use Rattle.esi_links.specs.declared.stop.OutStop.{OutStop}
 use Rattle.esi_links.specs.declared.stop.OutStop.TheVariants.{Fault, NoMemory}
 
--- what the system answered is told: a value is handed on, out of memory is told for that kind of error alone, and every other
--- error is a fault
-pub record Tells {T : Type 0} (answer : Result T Error) (result : Result T OutStop) : Type 0 where
+-- The system's answer in the terms of the traits: a value is handed on, an error of the kind `OutOfMemory` is out of memory, and
+-- every other error is a fault.
+pub record Translates {T : Type 0} (answer : Result T Error) (result : Result T OutStop) : Type 0 where
   pub given : IfOk answer (λ value. result ≡ Ok value)
   pub no_memory : IfErr answer (λ error. error_kind error ≡ OutOfMemory → result ≡ Err NoMemory)
   pub fault : IfErr answer (λ error. error_kind error ≢ OutOfMemory → result ≡ Err Fault)

@@ -6,8 +6,8 @@ use Rattle.std.specs.Option.{option_map}
 pub record Grows (before now : Option (List ℕ)) (octets : List ℕ) : Type 0 where
   pub told : now ≡ option_map (λ old. old ++ octets) before
 
--- the octets told grow by a front of these that is not the whole
-pub record GrowsByFront (before now : Option (List ℕ)) (octets : List ℕ) : Type 0 where
+-- the octets told grow by a prefix of these that is not the whole
+pub record GrowsByPrefix (before now : Option (List ℕ)) (octets : List ℕ) : Type 0 where
   pub count : ℕ
   pub within : count < length octets
   pub grows : Grows before now (take count octets)

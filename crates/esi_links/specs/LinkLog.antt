@@ -1,6 +1,7 @@
 -- What stands in the log of links.
 use Rattle.std.specs.Prelude.{◌≡◌, ℕ, ◌+◌, List, [], ◌∷◌, ◌++◌, Option, Bool, true, false, ◌&&◌, ◌==◌, IsTrue, nat_lt, nat_le, length, sum_by}
 use Rattle.std.specs.Option.{option_map}
+use Rattle.esi_links.specs.declared.limits.TheConstants.{LONGEST_BYTES}
 use Rattle.esi_links.specs.declared.links.Entry.{Entry}
 use Rattle.esi_links.specs.declared.links.Entry.TheVariants.{Happened, Sent, Dropped}
 use Rattle.esi_links.specs.declared.links.Event.{Event}
@@ -10,10 +11,10 @@ use Rattle.esi_links.specs.declared.links.Event.TheVariants.{Opened, Bytes, Writ
 pub record LogGrows (before now : Option (List Entry)) (entry : Entry) : Type 0 where
   pub told : now ≡ option_map (λ old. old ++ entry ∷ []) before
 
--- octets come 1 to 16,384 at a time
+-- octets come 1 to `LONGEST_BYTES` at a time
 abbrev pub is_sized : Event → Bool
 is_sized (Opened conn) = true
-is_sized (Bytes conn octets) = nat_lt 0 (length octets) && nat_le (length octets) 16384
+is_sized (Bytes conn octets) = nat_lt 0 (length octets) && nat_le (length octets) LONGEST_BYTES
 is_sized (Writable conn) = true
 is_sized (Closed conn) = true
 is_sized Idle = true

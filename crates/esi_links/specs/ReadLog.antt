@@ -6,20 +6,20 @@ use Rattle.esi_links.specs.declared.stop.OutStop.{OutStop}
 use Rattle.esi_links.specs.declared.stop.OutStop.TheVariants.{Fault, NoMemory}
 
 -- the notes told grow at their end by these, and are told where they were told
-pub record Notes (before now : Option (List Note)) (notes : List Note) : Type 0 where
+pub record AddsNotes (before now : Option (List Note)) (notes : List Note) : Type 0 where
   pub told : now ≡ option_map (λ old. old ++ notes) before
 
 -- the notes told grow by notes of this kind
-pub record Noted (before now : Option (List Note)) (Kind : List Note → Type 0) : Type 0 where
+pub record AddsNotesOf (before now : Option (List Note)) (Kind : List Note → Type 0) : Type 0 where
   pub notes : List Note
-  pub told : Notes before now notes
+  pub told : AddsNotes before now notes
   pub are : Kind notes
 
 -- a read of a file from an octet on, for at most so many
 abbrev pub read_note : List ℕ → ℕ → ℕ → Option ℕ → Note
 read_note name at room count = record { name = name; at = at; room = room; count = count }
 
--- what one read notes: that it was done or that it failed. For want of memory nothing is noted.
+-- what one read notes: that it was done or that it failed. A read that ran out of memory notes nothing.
 abbrev pub notes_of : List ℕ → ℕ → ℕ → Result ℕ OutStop → List Note
 notes_of name at room (Ok count) = read_note name at room (Some count) ∷ []
 notes_of name at room (Err Fault) = read_note name at room None ∷ []
@@ -28,7 +28,7 @@ notes_of name at room (Err NoMemory) = []
 -- A read of this file from this octet on: it asked for at least one octet, and for none past the first one above the limit.
 pub record IsReadAt (limit : ℕ) (name : List ℕ) (at : ℕ) (note : Note) : Type 0 where
   pub file : note.name ≡ name
-  pub place : note.at ≡ at
+  pub offset : note.at ≡ at
   pub some : 0 < note.room
   pub within : at + note.room ≤ limit + 1
 
@@ -42,7 +42,7 @@ pub record FindsAt (limit : ℕ) (name : List ℕ) (at : ℕ) (note : Note) : Ty
   pub some : 0 < count_of note
   pub fits : count_of note ≤ note.room
 
--- Reads of this file, one behind the other, that each found octets: the first from one octet on, each where the one before ended,
+-- Reads of this file, one after the other, that each found octets: the first from one octet on, each where the one before ended,
 -- and the last ended at `end`. There may be none.
 abbrev pub AreInRow : ℕ → List ℕ → ℕ → ℕ → List Note → Type 0
 AreInRow limit name at end [] = at ≡ end
@@ -80,13 +80,13 @@ pub record ReadFailed (limit : ℕ) (name : List ℕ) (at : ℕ) (notes : List N
   pub is_read : IsReadAt limit name end last
   pub failed : last.count ≡ None
 
--- the reading of a file was given up, for want of memory, behind reads none of which failed
+-- the reading of a file stopped, out of memory, after reads of which none failed
 pub record ReadCut (limit : ℕ) (name : List ℕ) (at : ℕ) (notes : List Note) : Type 0 where
   pub end : ℕ
   pub in_row : AreInRow limit name at end notes
   pub within : end ≤ limit + 1
 
--- Files were read through from their first octet on, in this order, one behind the other, each up to one octet above its limit.
+-- Files were read through from their first octet on, in this order, one after the other, each up to one octet above its limit.
 abbrev pub AreReadThrough : List ℕ → List (List ℕ) → List Note → Type 0
 AreReadThrough [] [] notes = notes ≡ []
 AreReadThrough [] (name ∷ names) notes = ⊥
@@ -103,7 +103,7 @@ AreReadToFault (limit ∷ limits) (name ∷ names) notes = ReadFailed limit name
     ⊎ ((first : List Note) × (rest : List Note) × (end : ℕ)
     × (notes ≡ first ++ rest) × ReadThrough limit name 0 end first × AreReadToFault limits names rest)
 
--- Of files that are to be read so, the first were read through, the reading of the next one, if there is one, was given up, and no
+-- Of files that are to be read so, the first were read through, the reading of the next one, if there is one, stopped out of memory, and no
 -- others were read.
 abbrev pub AreReadToCut : List ℕ → List (List ℕ) → List Note → Type 0
 AreReadToCut [] [] notes = notes ≡ []

@@ -14,17 +14,17 @@ SameTexts before now = (name : List ℕ) → now name ≡ before name
 abbrev pub SameElsewhere : List ℕ → (List ℕ → Option (List ℕ)) → (List ℕ → Option (List ℕ)) → Type 0
 SameElsewhere name before now = (other : List ℕ) → other ≢ name → now other ≡ before other
 
--- the octets are the front of the text, up to one octet above the limit
+-- the octets are the prefix of the text, up to one octet above the limit
 pub record ReadUpTo (limit : ℕ) (told : Option (List ℕ)) (octets : List ℕ) : Type 0 where
   pub within : length octets ≤ limit + 1
-  pub front : IfSome told (λ text. take (limit + 1) text ≡ octets)
+  pub prefix : IfSome told (λ text. take (limit + 1) text ≡ octets)
 
--- the octets are a front of the text
-pub record FrontOf (told : Option (List ℕ)) (octets : List ℕ) : Type 0 where
-  pub front : IfSome told (λ text. take (length octets) text ≡ octets)
+-- the octets are a prefix of the text
+pub record PrefixOf (told : Option (List ℕ)) (octets : List ℕ) : Type 0 where
+  pub prefix : IfSome told (λ text. take (length octets) text ≡ octets)
 
--- this many octets were read behind a front, 0 of them at the end of the text
+-- this many octets were read after a prefix, 0 of them at the end of the text
 pub record ReadsOn (count : ℕ) (told : Option (List ℕ)) (before now : List ℕ) : Type 0 where
-  pub front : FrontOf told now
+  pub prefix : PrefixOf told now
   pub longer : length now ≡ length before + count
   pub whole : count ≡ 0 → IfSome told (λ text. text ≡ now)

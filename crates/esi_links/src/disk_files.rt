@@ -1,7 +1,7 @@
 //! Files of the system.
 ghost use Rattle.std.specs.Prelude.{◌≡◌, ◌<◌, ◌≤◌, ℕ, List, Option, None, Bool, false, length, IfOk, OnErr};
 
-use crate::system::{read_from, told, write_to};
+use crate::system::{read_from, translate, write_to};
 use crate::{Files, OutStop};
 use std::io::{Seek, SeekFrom};
 use std::{fs, io, rt};
@@ -38,11 +38,11 @@ impl<R: rt::Files> Files for DiskFiles<R> {
     ghost write_faults = { λ files _. disk_faults files };
 
     fn read(&mut self, name: &str, at: u64, into: &mut [u8]) -> Result<usize, OutStop> {
-        told(read_file(&self.runtime, name, at, into), &mut self.faults)
+        translate(read_file(&self.runtime, name, at, into), &mut self.faults)
     }
 
     fn write(&mut self, name: &str, octets: &[u8]) -> Result<(), OutStop> {
-        told(write_file(&self.runtime, name, octets), &mut self.faults)
+        translate(write_file(&self.runtime, name, octets), &mut self.faults)
     }
 }
 

@@ -1,8 +1,9 @@
 //! Files, as a program reaches them.
 ghost use Rattle.std.specs.Prelude.{◌≡◌, ◌≢◌, ℕ, ◌<◌, ◌≤◌, Bool, false, List, Option, length, take, IfOk, OnOk, OnErr, IfSome, IsSome, IsErrOf};
-ghost use Rattle.esi_links.specs.Counts.{Later, HasCauseAt, SameCounts};
+ghost use Rattle.esi_links.specs.Counts.{NoneFell, HasCauseAt, SameCounts};
 ghost use Rattle.esi_links.specs.declared.note.Note.{Note as ReadNote};
-ghost use Rattle.esi_links.specs.ReadLog.{Notes, notes_of};
+ghost use Rattle.esi_links.specs.ReadLog.{AddsNotes, notes_of};
+ghost use Rattle.esi_links.specs.declared.limits.TheConstants.{LONGEST_FILE};
 ghost use Rattle.esi_links.specs.Texts.{PieceAt, SameTexts, SameElsewhere};
 
 use crate::OutStop;
@@ -19,7 +20,7 @@ pub trait Files {
     ghost unreadable: { Self → List ℕ → Bool };
 
     /// The reads that were made, in their order, if they are told. A read that failed is noted too;
-    /// one for which memory could not be had is not.
+    /// one that ran out of memory is not.
     ghost log: { Self → Option (List ReadNote) };
 
     /// How many reads under a name failed.
@@ -29,29 +30,29 @@ pub trait Files {
     ghost write_faults: { Self → List ℕ → ℕ };
 
     /// Reads octets of the file under a name, from the octet at `at`, which counts from 0 and is at
-    /// most 67,108,864. Ok(n): the first n places of the piece hold the n octets from `at`; 0 is the
+    /// most `LONGEST_FILE`. Ok(n): the first n octets of the piece are the n octets from `at`; 0 is the
     /// end of the file. Where the answer is not Ok, the piece is as before. Only a fault raises a
-    /// count. For want of memory the files are as before.
+    /// count. Where it runs out of memory the files stay as they were.
     fn read(&mut self, name: &str, at: u64, into: &mut [u8]) -> Result<usize, OutStop>
         requires piece { 0 < length into.old }
-        requires reach { at ≤ 67108864 }
+        requires reach { at ≤ LONGEST_FILE }
         ensures bound { IfOk result (λ n. n ≤ length into.new) }
         ensures octets { IfOk result (λ n. PieceAt (text self.old name.now) at (take n into.new)) }
         ensures readable { OnOk result (unreadable self.old name.now ≡ false) }
         ensures texts { SameTexts (text self.old) (text self.new) }
         ensures unreadables { (other : List ℕ) → unreadable self.new other ≡ unreadable self.old other }
-        ensures log { Notes (log self.old) (log self.new) (notes_of name.now at (length into.old) result) }
+        ensures log { AddsNotes (log self.old) (log self.new) (notes_of name.now at (length into.old) result) }
         ensures kept { OnErr result (into.new ≡ into.old) }
         ensures quiet_reads { OnOk result (SameCounts (read_faults self.old) (read_faults self.new)) }
         ensures quiet_writes { OnOk result (SameCounts (write_faults self.old) (write_faults self.new)) }
         ensures cause { HasCauseAt (read_faults self.old) (read_faults self.new) name.now result }
-        ensures writes { Later (write_faults self.old) (write_faults self.new) }
+        ensures writes { NoneFell (write_faults self.old) (write_faults self.new) }
         ensures no_memory_reads { IsErrOf result OutStop.NoMemory → SameCounts (read_faults self.old) (read_faults self.new) }
         ensures no_memory_writes { IsErrOf result OutStop.NoMemory
             → SameCounts (write_faults self.old) (write_faults self.new) };
 
     /// Puts a text in place of the whole file under a name. After a fault any text may stand under
-    /// that name. Only a fault raises a count. For want of memory the files are as before.
+    /// that name. Only a fault raises a count. Where it runs out of memory the files stay as they were.
     fn write(&mut self, name: &str, octets: &[u8]) -> Result<(), OutStop>
         ensures written { OnOk result (IfSome (text self.new name.now) (λ text. text ≡ octets.now)) }
         ensures told { IfSome (text self.old name.now) (λ _. IsSome (text self.new name.now)) }
@@ -61,7 +62,7 @@ pub trait Files {
         ensures unreadables { (other : List ℕ) → other ≢ name.now → unreadable self.new other ≡ unreadable self.old other }
         ensures log { log self.new ≡ log self.old }
         ensures cause { HasCauseAt (write_faults self.old) (write_faults self.new) name.now result }
-        ensures reads { Later (read_faults self.old) (read_faults self.new) }
+        ensures reads { NoneFell (read_faults self.old) (read_faults self.new) }
         ensures no_memory_texts { IsErrOf result OutStop.NoMemory → SameTexts (text self.old) (text self.new) }
         ensures no_memory_unreadables { IsErrOf result OutStop.NoMemory
             → (other : List ℕ) → unreadable self.new other ≡ unreadable self.old other }

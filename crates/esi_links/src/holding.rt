@@ -10,7 +10,8 @@ use std::collections::BTreeMap;
 /// Texts by name.
 pub(crate) type Held = BTreeMap<String, Octets>;
 
-/// Puts a text under a name, in place of an older one. For want of memory the texts stay.
+/// Puts a text under a name, in place of an older one. Where it runs out of memory the texts
+/// stay.
 pub(crate) fn hold_text(
     alloc: Global,
     held: &mut Held,

@@ -7,6 +7,7 @@ pub mod calls;
 pub mod disk_files;
 pub mod files;
 mod holding;
+pub mod limits;
 pub mod links;
 pub mod memory_files;
 pub mod memory_sink;
@@ -36,6 +37,3 @@ pub use sure_files::{SureFiles, sure_files_law};
 pub use sure_links::{SureLinks, sure_links_law};
 pub use sure_sink::{SureSink, sure_sink_law};
 pub use whole::{read_whole, write_whole};
-
-#[cfg(test)]
-mod tests;

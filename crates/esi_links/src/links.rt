@@ -1,7 +1,7 @@
 //! Links, over which connections come, bring octets and go.
 ghost use Rattle.std.specs.Prelude.{◌≡◌, ℕ, ◌≤◌, List, [], Option, Bool, true, false, length, take, IfOk, OnOk, OnErr, IfSome, IsErrOf, IsTrue};
 ghost use Rattle.esi_links.specs.declared.links.Entry.{Entry as LogEntry};
-ghost use Rattle.esi_links.specs.Counts.{Later, HasLinkCause, HasLinkCauseAt, SameCounts};
+ghost use Rattle.esi_links.specs.Counts.{NoneFell, HasLinkCause, HasLinkCauseAt, SameCounts};
 ghost use Rattle.esi_links.specs.LinkLog.{LogGrows, IsNext, is_sized};
 
 use crate::LinkStop;
@@ -13,7 +13,7 @@ use std::alloc::Global;
 pub enum Event {
     /// A connection opened. Those at a listener are numbered from 0 without gaps.
     Opened { conn: u32 },
-    /// A connection brought octets, 1 to 16,384 of them.
+    /// A connection brought octets, 1 to `LONGEST_BYTES` of them.
     Bytes { conn: u32, octets: Octets },
     /// A connection may take octets again.
     Writable { conn: u32 },
@@ -104,7 +104,7 @@ pub trait Links {
             → SameCounts (open_faults self.old) (open_faults self.new) }
         ensures no_memory_nexts { IsErrOf result LinkStop.NoMemory → next_faults self.new ≡ next_faults self.old };
 
-    /// Tells the next event, `Idle` where none came. A failure of one connection is no fault, but
+    /// Translates the next event, `Idle` where none came. A failure of one connection is no fault, but
     /// the event `Closed`.
     fn next(&mut self) -> Result<Event, LinkStop>
         requires { started self.old ≡ true }
@@ -114,7 +114,7 @@ pub trait Links {
         ensures log { IfOk result (λ event. LogGrows (log self.old) (log self.new) (Entry.Happened event)) }
         ensures refused { OnErr result (log self.new ≡ log self.old) }
         ensures cause { HasLinkCause (next_faults self.old) (next_faults self.new) result }
-        ensures opens { Later (open_faults self.old) (open_faults self.new) }
+        ensures opens { NoneFell (open_faults self.old) (open_faults self.new) }
         ensures quiet_opens { OnOk result (SameCounts (open_faults self.old) (open_faults self.new)) }
         ensures quiet_nexts { OnOk result (next_faults self.new ≡ next_faults self.old) }
         ensures no_memory_opens { IsErrOf result LinkStop.NoMemory
@@ -122,27 +122,29 @@ pub trait Links {
         ensures no_memory_nexts { IsErrOf result LinkStop.NoMemory → next_faults self.new ≡ next_faults self.old };
 
     /// Offers octets to a connection. Ok(n): it took the first n of them, and no others; 0 means
-    /// that it takes none now or is not open. For want of memory the links are as before.
+    /// that it takes none now or is not open. Where it runs out of memory the links
+    /// stay as they were.
     fn send(&mut self, conn: u32, octets: &[u8]) -> Result<usize, NoMemory>
         requires { started self.old ≡ true }
         ensures started { started self.new ≡ true }
         ensures bound { IfOk result (λ n. n ≤ length octets.now) }
         ensures log { IfOk result (λ n. LogGrows (log self.old) (log self.new) (Entry.Sent conn (length octets.now) (take n octets.now))) }
         ensures refused { OnErr result (log self.new ≡ log self.old) }
-        ensures opens { Later (open_faults self.old) (open_faults self.new) }
+        ensures opens { NoneFell (open_faults self.old) (open_faults self.new) }
         ensures nexts { next_faults self.old ≤ next_faults self.new }
         ensures quiet_opens { OnOk result (SameCounts (open_faults self.old) (open_faults self.new)) }
         ensures quiet_nexts { OnOk result (next_faults self.new ≡ next_faults self.old) }
         ensures no_memory_opens { OnErr result (SameCounts (open_faults self.old) (open_faults self.new)) }
         ensures no_memory_nexts { OnErr result (next_faults self.new ≡ next_faults self.old) };
 
-    /// Drops a connection. For want of memory the links are as before.
+    /// Drops a connection. Where it runs out of memory the links
+    /// stay as they were.
     fn drop_conn(&mut self, conn: u32) -> Result<(), NoMemory>
         requires { started self.old ≡ true }
         ensures started { started self.new ≡ true }
         ensures log { OnOk result (LogGrows (log self.old) (log self.new) (Entry.Dropped conn)) }
         ensures refused { OnErr result (log self.new ≡ log self.old) }
-        ensures opens { Later (open_faults self.old) (open_faults self.new) }
+        ensures opens { NoneFell (open_faults self.old) (open_faults self.new) }
         ensures nexts { next_faults self.old ≤ next_faults self.new }
         ensures quiet_opens { OnOk result (SameCounts (open_faults self.old) (open_faults self.new)) }
         ensures quiet_nexts { OnOk result (next_faults self.new ≡ next_faults self.old) }

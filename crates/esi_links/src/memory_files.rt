@@ -1,7 +1,8 @@
 //! Files in memory, of which chosen calls fail.
 ghost use Rattle.std.specs.Prelude.{◌≡◌, ◌≢◌, ◌<◌, ◌≤◌, ℕ, List, Option, None, Some, length, take, is_ok, is_none, false, IfOk, OnOk, OnErr, IfSome, IsSome, IsErrOf, ◌↔◌, true};
 ghost use Rattle.std.specs.Option.{option_copied};
-ghost use Rattle.esi_links.specs.Counts.{Later, HasCauseAt, SameCounts};
+ghost use Rattle.esi_links.specs.Counts.{NoneFell, HasCauseAt, SameCounts};
+ghost use Rattle.esi_links.specs.declared.limits.TheConstants.{LONGEST_FILE};
 ghost use Rattle.esi_links.specs.Texts.{PieceAt, SameTexts, SameElsewhere};
 
 use crate::holding::{Held, copy_piece, hold_text};
@@ -39,8 +40,8 @@ impl MemoryFiles {
         }
     }
 
-    /// Puts a text under a name in place of an older one. It counts as no write. For want of memory
-    /// the files are as before.
+    /// Puts a text under a name in place of an older one. It counts as no write. Where it runs out
+    /// of memory the files stay as they were.
     pub fn hold(&mut self, name: &str, octets: &[u8]) -> Result<(), NoMemory>
         ensures held { OnOk result (memory_text self.new name.now ≡ Some octets.now) }
         ensures elsewhere { SameElsewhere name.now (memory_text self.old) (memory_text self.new) }
@@ -80,7 +81,7 @@ impl Files for MemoryFiles {
     /// memory.
     fn read(&mut self, name: &str, at: u64, into: &mut [u8]) -> Result<usize, OutStop>
         requires piece { 0 < length into.old }
-        requires reach { at ≤ 67108864 }
+        requires reach { at ≤ LONGEST_FILE }
         ensures bound { IfOk result (λ n. n ≤ length into.new) }
         ensures octets { IfOk result (λ n. PieceAt (memory_text self.old name.now) at (take n into.new)) }
         ensures texts { SameTexts (memory_text self.old) (memory_text self.new) }
@@ -90,7 +91,7 @@ impl Files for MemoryFiles {
         ensures quiet_reads { OnOk result (SameCounts (memory_read_faults self.old) (memory_read_faults self.new)) }
         ensures quiet_writes { OnOk result (SameCounts (memory_write_faults self.old) (memory_write_faults self.new)) }
         ensures cause { HasCauseAt (memory_read_faults self.old) (memory_read_faults self.new) name.now result }
-        ensures writes { Later (memory_write_faults self.old) (memory_write_faults self.new) }
+        ensures writes { NoneFell (memory_write_faults self.old) (memory_write_faults self.new) }
         ensures no_memory_reads { IsErrOf result OutStop.NoMemory → SameCounts (memory_read_faults self.old) (memory_read_faults self.new) }
         ensures no_memory_writes { IsErrOf result OutStop.NoMemory
             → SameCounts (memory_write_faults self.old) (memory_write_faults self.new) }
@@ -126,7 +127,7 @@ impl Files for MemoryFiles {
         ensures elsewhere { SameElsewhere name.now (memory_text self.old) (memory_text self.new) }
         ensures unreadables { (other : List ℕ) → other ≢ name.now → is_none (memory_text self.new other) ≡ is_none (memory_text self.old other) }
         ensures cause { HasCauseAt (memory_write_faults self.old) (memory_write_faults self.new) name.now result }
-        ensures reads { Later (memory_read_faults self.old) (memory_read_faults self.new) }
+        ensures reads { NoneFell (memory_read_faults self.old) (memory_read_faults self.new) }
         ensures no_memory_texts { IsErrOf result OutStop.NoMemory → SameTexts (memory_text self.old) (memory_text self.new) }
         ensures no_memory_unreadables { IsErrOf result OutStop.NoMemory
             → (other : List ℕ) → is_none (memory_text self.new other) ≡ is_none (memory_text self.old other) }

@@ -76,7 +76,7 @@ impl<F: Files> Files for NotingFiles<F> {
 /// Adds a note that says nothing, so that one that does can take its place.
 fn make_room(alloc: Global, notes: &mut List<Note>) -> Result<(), NoMemory>
     ensures longer { OnOk result (length notes.new ≡ length notes.old + 1) }
-    ensures front { OnOk result (take (length notes.old) notes.new ≡ notes.old) }
+    ensures prefix { OnOk result (take (length notes.old) notes.new ≡ notes.old) }
     ensures refused { OnErr result (notes.new ≡ notes.old) }
 {
     let blank = Note {
@@ -85,10 +85,7 @@ fn make_room(alloc: Global, notes: &mut List<Note>) -> Result<(), NoMemory>
         room: 0,
         count: None,
     };
-    match notes.push(blank) {
-        Ok(()) => Ok(()),
-        Err(_blank) => Err(NoMemory),
-    }
+    notes.add(blank)
 }
 
 /// Puts what a read notes in place of the last note.

@@ -16,7 +16,7 @@ pub trait Sink {
     ghost faults: { Self → ℕ };
 
     /// Offers octets. Ok(n): the first n of them were taken, and no others; n is above 0 where any
-    /// were offered. For want of memory the sink is as before.
+    /// were offered. Where it runs out of memory the sink stays as it was.
     fn write(&mut self, piece: &[u8]) -> Result<usize, OutStop>
         ensures bound { IfOk result (λ n. n ≤ length piece.now) }
         ensures some { IfOk result (λ n. 0 < length piece.now → 0 < n) }

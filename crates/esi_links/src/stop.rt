@@ -11,7 +11,7 @@ use std::alloc::{AllocError, AllocFailed};
 pub enum OutStop {
     /// The outside failed, and the count of this kind of fault rose.
     Fault,
-    /// Memory could not be had. This is no fault.
+    /// Out of memory, which is no fault.
     NoMemory,
 }
 
@@ -20,7 +20,7 @@ pub enum OutStop {
 pub enum LinkStop {
     /// The outside failed, and the count of this kind of fault rose.
     Fault,
-    /// Memory could not be had. This is no fault.
+    /// Out of memory, which is no fault.
     NoMemory,
 }
 

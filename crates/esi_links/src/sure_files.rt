@@ -1,7 +1,8 @@
 //! Files in memory that never fail.
 ghost use Rattle.std.specs.Prelude.{◌≡◌, ◌<◌, ◌≤◌, ℕ, List, Option, None, Some, length, take, false, IfOk, OnOk, OnErr, IfSome, IsSome, IsErrOf, Ok};
 ghost use Rattle.std.specs.Option.{option_copied};
-ghost use Rattle.esi_links.specs.Counts.{Later, HasCauseAt, SameCounts};
+ghost use Rattle.esi_links.specs.Counts.{NoneFell, HasCauseAt, SameCounts};
+ghost use Rattle.esi_links.specs.declared.limits.TheConstants.{LONGEST_FILE};
 ghost use Rattle.esi_links.specs.Texts.{PieceAt, SameTexts, SameElsewhere};
 
 use crate::holding::{Held, copy_piece, hold_text};
@@ -30,8 +31,8 @@ impl SureFiles {
         }
     }
 
-    /// Puts a text under a name in place of an older one. For want of memory the files are as
-    /// before.
+    /// Puts a text under a name in place of an older one. Where it runs out of memory
+    /// the files stay as they were.
     pub fn hold(&mut self, name: &str, octets: &[u8]) -> Result<(), NoMemory>
         ensures held { OnOk result (sure_text self.new name.now ≡ Some octets.now) }
         ensures elsewhere { SameElsewhere name.now (sure_text self.old) (sure_text self.new) }
@@ -67,7 +68,7 @@ impl Files for SureFiles {
     /// It never fails, takes no memory, and gives an empty file where no text is held.
     fn read(&mut self, name: &str, at: u64, into: &mut [u8]) -> Result<usize, OutStop>
         requires piece { 0 < length into.old }
-        requires reach { at ≤ 67108864 }
+        requires reach { at ≤ LONGEST_FILE }
         ensures bound { IfOk result (λ n. n ≤ length into.new) }
         ensures octets { IfOk result (λ n. PieceAt (sure_told self.old name.now) at (take n into.new)) }
         ensures texts { SameTexts (sure_told self.old) (sure_told self.new) }
@@ -75,7 +76,7 @@ impl Files for SureFiles {
         ensures quiet_reads { OnOk result (SameCounts (no_faults self.old) (no_faults self.new)) }
         ensures quiet_writes { OnOk result (SameCounts (no_faults self.old) (no_faults self.new)) }
         ensures cause { HasCauseAt (no_faults self.old) (no_faults self.new) name.now result }
-        ensures writes { Later (no_faults self.old) (no_faults self.new) }
+        ensures writes { NoneFell (no_faults self.old) (no_faults self.new) }
         ensures no_memory_reads { IsErrOf result OutStop.NoMemory → SameCounts (no_faults self.old) (no_faults self.new) }
         ensures no_memory_writes { IsErrOf result OutStop.NoMemory → SameCounts (no_faults self.old) (no_faults self.new) }
         ensures answer { result ≡ Ok (count_at (sure_file self.old name.now) at (length into.old)) }
@@ -87,7 +88,7 @@ impl Files for SureFiles {
         }
     }
 
-    /// It never fails but for want of memory.
+    /// It fails only when it runs out of memory.
     fn write(&mut self, name: &str, octets: &[u8]) -> Result<(), OutStop>
         ensures written { OnOk result (IfSome (sure_told self.new name.now) (λ text. text ≡ octets.now)) }
         ensures told { IfSome (sure_told self.old name.now) (λ _. IsSome (sure_told self.new name.now)) }
@@ -95,7 +96,7 @@ impl Files for SureFiles {
         ensures quiet_writes { OnOk result (SameCounts (no_faults self.old) (no_faults self.new)) }
         ensures elsewhere { SameElsewhere name.now (sure_told self.old) (sure_told self.new) }
         ensures cause { HasCauseAt (no_faults self.old) (no_faults self.new) name.now result }
-        ensures reads { Later (no_faults self.old) (no_faults self.new) }
+        ensures reads { NoneFell (no_faults self.old) (no_faults self.new) }
         ensures no_memory_texts { IsErrOf result OutStop.NoMemory → SameTexts (sure_told self.old) (sure_told self.new) }
         ensures no_memory_reads { IsErrOf result OutStop.NoMemory → SameCounts (no_faults self.old) (no_faults self.new) }
         ensures no_memory_writes { IsErrOf result OutStop.NoMemory → SameCounts (no_faults self.old) (no_faults self.new) }

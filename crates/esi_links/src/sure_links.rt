@@ -2,7 +2,7 @@
 ghost use Rattle.std.specs.Prelude.{◌≡◌, ◌<◌, ◌≤◌, ◌++◌, ◌∷◌, [], List as Listed, Option, Some, IsTrue, true, false, length, take, drop, IfOk, OnOk, OnErr, IfSome, IsErrOf, Ok, ℕ};
 ghost use Rattle.std.specs.List.{list_all};
 ghost use Rattle.esi_links.specs.LinkLog.{LogGrows, IsNext, is_sized, opened_count, are_numbered, next_event, is_fresh};
-ghost use Rattle.esi_links.specs.Counts.{Later, HasLinkCause, HasLinkCauseAt, SameCounts};
+ghost use Rattle.esi_links.specs.Counts.{NoneFell, HasLinkCause, HasLinkCauseAt, SameCounts};
 
 use crate::{Entry, Event, LinkStop, Links};
 use esi_base::{List, NoMemory, Octets};
@@ -26,7 +26,7 @@ impl SureLinks {
     ghost use Rattle.esi_links.specs.SureLog.{events_left, sure_log, sure_started};
 
     /// Links that are not started, with the events that they are to tell. Each `Bytes` among them
-    /// has 1 to 16,384 octets, and the k-th `Opened`, from 0, has the number k. It takes no memory.
+    /// has 1 to `LONGEST_BYTES` octets, and the k-th `Opened`, from 0, has the number k. It takes no memory.
     pub fn new(alloc: Global, events: List<Event>) -> SureLinks
         requires sized { IsTrue (list_all is_sized events) }
         requires numbered { IsTrue (are_numbered 0 events) }
@@ -96,8 +96,8 @@ impl Links for SureLinks {
         Ok(0)
     }
 
-    /// It tells the first event that is left, `Idle` where none is, and never fails but for want of
-    /// memory.
+    /// It tells the first event that is left, `Idle` where none is, and fails only when it runs
+    /// out of memory.
     fn next(&mut self) -> Result<Event, LinkStop>
         requires { sure_started self.old ≡ true }
         ensures started { sure_started self.new ≡ true }
@@ -106,7 +106,7 @@ impl Links for SureLinks {
         ensures log { IfOk result (λ event. LogGrows (sure_log_told self.old) (sure_log_told self.new) (Entry.Happened event)) }
         ensures refused { OnErr result (sure_log_told self.new ≡ sure_log_told self.old) }
         ensures cause { HasLinkCause (no_next_faults self.old) (no_next_faults self.new) result }
-        ensures opens { Later (no_open_faults self.old) (no_open_faults self.new) }
+        ensures opens { NoneFell (no_open_faults self.old) (no_open_faults self.new) }
         ensures quiet_opens { OnOk result (SameCounts (no_open_faults self.old) (no_open_faults self.new)) }
         ensures quiet_nexts { OnOk result (no_next_faults self.new ≡ no_next_faults self.old) }
         ensures no_memory_opens { IsErrOf result LinkStop.NoMemory
@@ -118,7 +118,7 @@ impl Links for SureLinks {
         ensures kept { OnErr result (events_left self.new ≡ events_left self.old) }
     {
         let event = copy_next(self.alloc, &self.events, self.given)?;
-        log_entry(&mut self.log, Entry::Happened(event))?;
+        self.log.add(Entry::Happened(event))?;
         Ok(take_event(&mut self.events, &mut self.given))
     }
 
@@ -129,7 +129,7 @@ impl Links for SureLinks {
         ensures bound { IfOk result (λ n. n ≤ length octets.now) }
         ensures log { IfOk result (λ n. LogGrows (sure_log_told self.old) (sure_log_told self.new) (Entry.Sent conn (length octets.now) (take n octets.now))) }
         ensures refused { OnErr result (sure_log_told self.new ≡ sure_log_told self.old) }
-        ensures opens { Later (no_open_faults self.old) (no_open_faults self.new) }
+        ensures opens { NoneFell (no_open_faults self.old) (no_open_faults self.new) }
         ensures nexts { no_next_faults self.old ≤ no_next_faults self.new }
         ensures quiet_opens { OnOk result (SameCounts (no_open_faults self.old) (no_open_faults self.new)) }
         ensures quiet_nexts { OnOk result (no_next_faults self.new ≡ no_next_faults self.old) }
@@ -145,7 +145,7 @@ impl Links for SureLinks {
             offered,
             taken,
         };
-        log_entry(&mut self.log, entry)?;
+        self.log.add(entry)?;
         Ok(offered)
     }
 
@@ -154,7 +154,7 @@ impl Links for SureLinks {
         ensures started { sure_started self.new ≡ true }
         ensures log { OnOk result (LogGrows (sure_log_told self.old) (sure_log_told self.new) (Entry.Dropped conn)) }
         ensures refused { OnErr result (sure_log_told self.new ≡ sure_log_told self.old) }
-        ensures opens { Later (no_open_faults self.old) (no_open_faults self.new) }
+        ensures opens { NoneFell (no_open_faults self.old) (no_open_faults self.new) }
         ensures nexts { no_next_faults self.old ≤ no_next_faults self.new }
         ensures quiet_opens { OnOk result (SameCounts (no_open_faults self.old) (no_open_faults self.new)) }
         ensures quiet_nexts { OnOk result (no_next_faults self.new ≡ no_next_faults self.old) }
@@ -162,7 +162,7 @@ impl Links for SureLinks {
         ensures no_memory_nexts { OnErr result (no_next_faults self.new ≡ no_next_faults self.old) }
         ensures events { events_left self.new ≡ events_left self.old }
     {
-        log_entry(&mut self.log, Entry::Dropped { conn })?;
+        self.log.add(Entry::Dropped { conn })?;
         Ok(())
     }
 
@@ -175,7 +175,7 @@ pub fn sure_links_law(links: &SureLinks)
     ensures nexts { ⟦<SureLinks as Links>⟧.next_faults links.now ≡ 0 }
 {}
 
-/// A copy of the event at a place, `Idle` where there is none.
+/// A copy of the event at an index, `Idle` where there is none.
 fn copy_next(alloc: Global, events: &List<Event>, given: usize) -> Result<Event, NoMemory>
     ensures { IfOk result (λ event. event ≡ next_event (drop given events.now)) }
 {
@@ -185,18 +185,7 @@ fn copy_next(alloc: Global, events: &List<Event>, given: usize) -> Result<Event,
     }
 }
 
-/// Puts an entry at the end of the log. For want of memory the log stays.
-fn log_entry(log: &mut List<Entry>, entry: Entry) -> Result<(), NoMemory>
-    ensures logged { OnOk result (log.new ≡ log.old ++ entry ∷ []) }
-    ensures refused { OnErr result (log.new ≡ log.old) }
-{
-    match log.push(entry) {
-        Ok(()) => Ok(()),
-        Err(_entry) => Err(NoMemory),
-    }
-}
-
-/// Takes the event at a place, `Idle` where there is none, and goes on to the next place.
+/// Takes the event at an index, `Idle` where there is none, and goes on to the next index.
 fn take_event(events: &mut List<Event>, given: &mut usize) -> Event
     ensures first { result ≡ next_event (drop given.old events.old) }
     ensures left { drop given.new events.new ≡ drop 1 (drop given.old events.old) }

@@ -41,7 +41,7 @@ impl Sink for SureSink {
 
     ghost faults = { no_sink_faults };
 
-    /// It takes the whole piece, and never fails but for want of memory.
+    /// It takes the whole piece, and fails only when it runs out of memory.
     fn write(&mut self, piece: &[u8]) -> Result<usize, OutStop>
         ensures bound { IfOk result (λ n. n ≤ length piece.now) }
         ensures some { IfOk result (λ n. 0 < length piece.now → 0 < n) }

@@ -1,21 +1,19 @@
-//! What the system answered, told as the traits tell it. Here alone a failure of the system is
-//! judged, so each adapter is a line.
+//! What the system answered, as an answer of the traits. Only here it is decided what a failure of
+//! the system is, so each adapter is a line.
 ghost use Rattle.std.specs.Prelude.{◌≡◌, ◌≢◌, ◌<◌, ◌≤◌, length, IfOk, OnOk, OnErr};
 ghost use Rattle.std.specs.Io.{ReadsAtMost};
 ghost use Rattle.std.specs.Io.KnownBytes.{Appends, ReadConsumes, WriteAppends};
-ghost use Rattle.esi_links.specs.Adapters.{Tells, after_answer};
+ghost use Rattle.esi_links.specs.Adapters.{Translates, after_answer};
 ghost use Rattle.esi_links.specs.Counts.{HasCause};
 
 use crate::OutStop;
+use crate::limits::LONGEST_PIECE;
 use std::io;
-
-/// How many octets one call of the system reads at most.
-const PIECE: usize = 4096;
 
 /// What the system gave is handed on. An error of the kind `OutOfMemory` is out of memory; every
 /// other error is a fault, and is counted.
-pub(crate) fn told<T: Drop>(answer: io::Result<T>, faults: &mut u64) -> Result<T, OutStop>
-    ensures told { Tells answer result }
+pub(crate) fn translate<T: Drop>(answer: io::Result<T>, faults: &mut u64) -> Result<T, OutStop>
+    ensures answer { Translates answer result }
     ensures count { faults.new ≡ after_answer faults.old result }
     ensures cause { HasCause faults.old faults.new result }
 {
@@ -31,14 +29,14 @@ pub(crate) fn told<T: Drop>(answer: io::Result<T>, faults: &mut u64) -> Result<T
     }
 }
 
-/// Reads one piece, at most `PIECE` octets at a time. A read that fails leaves the piece as it was.
+/// Reads one piece, at most `LONGEST_PIECE` octets at a time. A read that fails leaves the piece as it was.
 pub(crate) fn read_from<F: io::Read>(file: &mut F, into: &mut [u8]) -> io::Result<usize>
     ensures bound { IfOk result (λ count. count ≤ length into.new) }
     ensures octets { ReadConsumes (F.remaining file.old) (F.remaining file.new) result into.new }
     ensures kept { OnErr result (into.new ≡ into.old) }
 {
-    let mut piece = [0u8; PIECE];
-    let room = into.len().min(PIECE);
+    let mut piece = [0u8; LONGEST_PIECE];
+    let room = into.len().min(LONGEST_PIECE);
     let count = file.read(&mut piece[..room])?;
     into[..count].copy_from_slice(&piece[..count]);
     Ok(count)
@@ -63,7 +61,7 @@ pub(crate) fn offer_to<W: io::Write>(
     ensures count { faults.new ≡ after_answer faults.old result }
     ensures cause { HasCause faults.old faults.new result }
 {
-    let count = told(writer.write(piece), faults)?;
+    let count = translate(writer.write(piece), faults)?;
     if count == 0 && !piece.is_empty() {
         *faults = faults.saturating_add(1);
         return Err(OutStop::Fault);

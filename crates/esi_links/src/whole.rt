@@ -1,19 +1,18 @@
 //! Whole texts: read from files and written to a sink.
 ghost use Rattle.std.specs.Prelude.{◌≡◌, ℕ, List, false, ◌≤◌, ◌<◌, ◌+◌, length, take, IfOk, OnOk, OnErr, IsErrOf};
-ghost use Rattle.esi_links.specs.Counts.{Later, SameCounts, HasCause, HasCauseAt};
-ghost use Rattle.esi_links.specs.Growth.{Grows, GrowsByFront};
-ghost use Rattle.esi_links.specs.ReadLog.{Noted, IsPieceRead, ReadThrough, ReadFailed, ReadCut};
-ghost use Rattle.esi_links.specs.Texts.{FrontOf, ReadUpTo, SameTexts, ReadsOn};
+ghost use Rattle.esi_links.specs.Counts.{NoneFell, SameCounts, HasCause, HasCauseAt};
+ghost use Rattle.esi_links.specs.Growth.{Grows, GrowsByPrefix};
+ghost use Rattle.esi_links.specs.declared.limits.TheConstants.{LONGEST_FILE};
+ghost use Rattle.esi_links.specs.ReadLog.{AddsNotesOf, IsPieceRead, ReadThrough, ReadFailed, ReadCut};
+ghost use Rattle.esi_links.specs.Texts.{PrefixOf, ReadUpTo, SameTexts, ReadsOn};
 
+use crate::limits::LONGEST_PIECE;
 use crate::{Files, OutStop, Sink};
 use esi_base::Octets;
 use std::alloc::Global;
 
-/// How many octets one call reads at most.
-const PIECE: usize = 4096;
-
 /// Reads the text under a name whole, or its first `limit` + 1 octets where it is longer: so the
-/// caller sees whether a text is above the limit, which is at most 67,108,864. The file is read once
+/// caller sees whether a text is above the limit, which is at most `LONGEST_FILE`. The file is read once
 /// through, from its first octet on. A fault comes only where the count of reads under this name
 /// rose, and any other answer leaves all counts.
 pub fn read_whole<F: Files>(
@@ -22,25 +21,25 @@ pub fn read_whole<F: Files>(
     name: &str,
     limit: usize,
 ) -> Result<Octets, OutStop>
-    requires { limit ≤ 67108864 }
+    requires { limit ≤ LONGEST_FILE }
     ensures text { IfOk result (λ octets. ReadUpTo limit (F.text files.old name.now) octets) }
     ensures readable { OnOk result (F.unreadable files.old name.now ≡ false) }
     ensures texts { SameTexts (F.text files.old) (F.text files.new) }
     ensures unreadables { (other : List ℕ) → F.unreadable files.new other ≡ F.unreadable files.old other }
-    ensures through { IfOk result (λ octets. Noted (F.log files.old) (F.log files.new) (ReadThrough limit name.now 0 (length octets))) }
+    ensures through { IfOk result (λ octets. AddsNotesOf (F.log files.old) (F.log files.new) (ReadThrough limit name.now 0 (length octets))) }
     ensures failed { IsErrOf result OutStop.Fault
-        → Noted (F.log files.old) (F.log files.new) (ReadFailed limit name.now 0) }
-    ensures cut { IsErrOf result OutStop.NoMemory → Noted (F.log files.old) (F.log files.new) (ReadCut limit name.now 0) }
+        → AddsNotesOf (F.log files.old) (F.log files.new) (ReadFailed limit name.now 0) }
+    ensures cut { IsErrOf result OutStop.NoMemory → AddsNotesOf (F.log files.old) (F.log files.new) (ReadCut limit name.now 0) }
     ensures quiet_reads { OnOk result (SameCounts (F.read_faults files.old) (F.read_faults files.new)) }
     ensures quiet_writes { OnOk result (SameCounts (F.write_faults files.old) (F.write_faults files.new)) }
     ensures cause { HasCauseAt (F.read_faults files.old) (F.read_faults files.new) name.now result }
-    ensures writes { Later (F.write_faults files.old) (F.write_faults files.new) }
+    ensures writes { NoneFell (F.write_faults files.old) (F.write_faults files.new) }
     ensures no_memory_reads { IsErrOf result OutStop.NoMemory
         → SameCounts (F.read_faults files.old) (F.read_faults files.new) }
     ensures no_memory_writes { IsErrOf result OutStop.NoMemory
         → SameCounts (F.write_faults files.old) (F.write_faults files.new) }
 {
-    let mut piece = [0u8; PIECE];
+    let mut piece = [0u8; LONGEST_PIECE];
     let mut octets = Octets::new(alloc);
     while octets.len() <= limit {
         if read_piece(files, name, limit, &mut piece, &mut octets)? == 0 {
@@ -50,7 +49,7 @@ pub fn read_whole<F: Files>(
     Ok(octets)
 }
 
-/// Reads one piece behind the octets that were read, none past the first octet above the limit, and
+/// Reads one piece after the octets that were read, none past the first octet above the limit, and
 /// answers how many octets it had, 0 at the end of the text.
 fn read_piece<F: Files>(
     files: &mut F,
@@ -60,23 +59,23 @@ fn read_piece<F: Files>(
     octets: &mut Octets,
 ) -> Result<usize, OutStop>
     requires some { 0 < length piece.old }
-    requires limit { limit ≤ 67108864 }
+    requires limit { limit ≤ LONGEST_FILE }
     requires reach { length octets.old ≤ limit }
-    requires front { FrontOf (F.text files.old name.now) octets.old }
+    requires prefix { PrefixOf (F.text files.old name.now) octets.old }
     ensures read { IfOk result (λ count. ReadsOn count (F.text files.old name.now) octets.old octets.new) }
     ensures within { IfOk result (λ count. length octets.old + count ≤ limit + 1) }
     ensures readable { OnOk result (F.unreadable files.old name.now ≡ false) }
     ensures texts { SameTexts (F.text files.old) (F.text files.new) }
     ensures unreadables { (other : List ℕ) → F.unreadable files.new other ≡ F.unreadable files.old other }
-    ensures log { IfOk result (λ count. Noted (F.log files.old) (F.log files.new) (IsPieceRead limit name.now (length octets.old) count)) }
+    ensures log { IfOk result (λ count. AddsNotesOf (F.log files.old) (F.log files.new) (IsPieceRead limit name.now (length octets.old) count)) }
     ensures failed { IsErrOf result OutStop.Fault
-        → Noted (F.log files.old) (F.log files.new) (ReadFailed limit name.now (length octets.old)) }
+        → AddsNotesOf (F.log files.old) (F.log files.new) (ReadFailed limit name.now (length octets.old)) }
     ensures cut { IsErrOf result OutStop.NoMemory
-        → Noted (F.log files.old) (F.log files.new) (ReadCut limit name.now (length octets.old)) }
+        → AddsNotesOf (F.log files.old) (F.log files.new) (ReadCut limit name.now (length octets.old)) }
     ensures quiet_reads { OnOk result (SameCounts (F.read_faults files.old) (F.read_faults files.new)) }
     ensures quiet_writes { OnOk result (SameCounts (F.write_faults files.old) (F.write_faults files.new)) }
     ensures cause { HasCauseAt (F.read_faults files.old) (F.read_faults files.new) name.now result }
-    ensures writes { Later (F.write_faults files.old) (F.write_faults files.new) }
+    ensures writes { NoneFell (F.write_faults files.old) (F.write_faults files.new) }
     ensures no_memory_reads { IsErrOf result OutStop.NoMemory
         → SameCounts (F.read_faults files.old) (F.read_faults files.new) }
     ensures no_memory_writes { IsErrOf result OutStop.NoMemory
@@ -95,7 +94,7 @@ fn read_piece<F: Files>(
 /// where the count of the sink rose, and any other answer leaves it.
 pub fn write_whole<O: Sink>(out: &mut O, octets: &[u8]) -> Result<(), OutStop>
     ensures whole { OnOk result (Grows (O.octets out.old) (O.octets out.new) octets.now) }
-    ensures front { OnErr result (GrowsByFront (O.octets out.old) (O.octets out.new) octets.now) }
+    ensures prefix { OnErr result (GrowsByPrefix (O.octets out.old) (O.octets out.new) octets.now) }
     ensures quiet { OnOk result (O.faults out.new ≡ O.faults out.old) }
     ensures cause { HasCause (O.faults out.old) (O.faults out.new) result }
     ensures no_memory { IsErrOf result OutStop.NoMemory → O.faults out.new ≡ O.faults out.old }

@@ -1,20 +1,20 @@
 use Rattle.std.proofs.Common.{rules, ◌++◌, IsErrOf}
-use Rattle.esi_links.specs.Growth.{GrowsByFront}
+use Rattle.esi_links.specs.Growth.{GrowsByPrefix}
 use Rattle.esi_links.specs.declared.stop.OutStop.TheVariants.{Fault, NoMemory}
-use Rattle.command_runs.proofs.PieceLemmas.{printed_more, printed_front, printed_front_on}
+use Rattle.command_runs.proofs.PieceLemmas.{printed_more, printed_prefix, printed_prefix_on}
 use Rattle.command_runs.proofs.printing.print_lines.Goals as goal
 
 pub returns-in_err-print_piece-clause-failed : goal.returns-in_err-print_piece-clause-failed
 returns-in_err-print_piece-clause-failed g c =
-    let front : IsErrOf c.print_piece.result Fault → GrowsByFront (g.O.Sink.octets c.args.out.now) (g.O.Sink.octets c.print_piece.new.out) (g.P.Printer.left c.args.lines.now)
-    = λ fault. printed_front c.loop-piece.invariant.printed (c.print_piece.ensures.failed fault) in
+    let prefix : IsErrOf c.print_piece.result Fault → GrowsByPrefix (g.O.Sink.octets c.args.out.now) (g.O.Sink.octets c.print_piece.new.out) (g.P.Printer.left c.args.lines.now)
+    = λ fault. printed_prefix c.loop-piece.invariant.printed (c.print_piece.ensures.failed fault) in
     search rules
 
 pub returns-in_err-print_piece-clause-no_memory : goal.returns-in_err-print_piece-clause-no_memory
 returns-in_err-print_piece-clause-no_memory g c =
     let closing = (g.P.Printer.finish c.loop-piece.lines).closing in
-    let front : IsErrOf c.print_piece.result NoMemory → GrowsByFront (g.O.Sink.octets c.args.out.now) (g.O.Sink.octets c.print_piece.new.out) (g.P.Printer.left c.args.lines.now ++ closing)
-    = λ lack. printed_front_on closing c.loop-piece.invariant.printed (c.print_piece.ensures.no_memory lack) in
+    let prefix : IsErrOf c.print_piece.result NoMemory → GrowsByPrefix (g.O.Sink.octets c.args.out.now) (g.O.Sink.octets c.print_piece.new.out) (g.P.Printer.left c.args.lines.now ++ closing)
+    = λ lack. printed_prefix_on closing c.loop-piece.invariant.printed (c.print_piece.ensures.no_memory lack) in
     let kept = c.loop-piece.invariant.kept in
     rw (← kept) (search rules)
 

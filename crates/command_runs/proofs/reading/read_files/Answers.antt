@@ -1,10 +1,10 @@
 use Rattle.std.proofs.Common.{rules, ◌≡◌, ◌<◌, ◌++◌, ◌∷◌, [], List, ℕ, Option, length, map, get_or, IsErrOf, refl, sym, ◌∙◌, subst, arith}
 use Rattle.std.specs.String.{string_bytes}
 use Rattle.std.proofs.lemmas.List.{length-map}
-use Rattle.esi_links.specs.ReadLog.{Noted, AreReadToFault, AreReadToCut}
+use Rattle.esi_links.specs.ReadLog.{AddsNotesOf, AreReadToFault, AreReadToCut}
 use Rattle.esi_links.specs.Texts.{ReadUpTo}
 use Rattle.esi_links.specs.declared.stop.OutStop.TheVariants.{Fault, NoMemory}
-use Rattle.command_runs.specs.Outside.{FilesSeen, files_seen}
+use Rattle.command_runs.specs.Outside.{FilesView, files_view}
 use Rattle.command_runs.specs.Ran.{RoseAmong}
 use Rattle.command_runs.proofs.ReadLemmas.{name_at, limit_at, rose_at, same_join, read_next, readable_next, through_next, fault_next, cut_next, cut_behind_next}
 use Rattle.command_runs.proofs.reading.read_files.Goals as goal
@@ -22,7 +22,7 @@ returns-in_err-text-clause-failed g c =
     let within_names : c.loop-at.at < length c.args.names.now = omega (arith, c.requires.as_many) in
     let name_is : c.as_str.result.now ≡ get_or names c.loop-at.at (string_bytes c.index-names-at.result)
     = c.as_str.ensures.value ∙ name_at c.args.names.now c.loop-at.at c.index-names-at.result within_names c.index-names-at.is in
-    let failed : IsErrOf c.read_whole.result Fault → Noted (g.F.Files.log c.args.files.now) (g.F.Files.log c.read_whole.new.files) (AreReadToFault c.args.limits.now names)
+    let failed : IsErrOf c.read_whole.result Fault → AddsNotesOf (g.F.Files.log c.args.files.now) (g.F.Files.log c.read_whole.new.files) (AreReadToFault c.args.limits.now names)
     = λ fault. fault_next c.args.limits.now names c.loop-at.at (get_or c.args.limits.now c.loop-at.at 0) 0 c.as_str.result.now (string_bytes c.index-names-at.result) as_many within refl name_is
     _ _ _ c.loop-at.invariant.through (c.read_whole.ensures.failed fault) in
     search rules
@@ -35,7 +35,7 @@ returns-in_err-text-clause-cut g c =
     let within_names : c.loop-at.at < length c.args.names.now = omega (arith, c.requires.as_many) in
     let name_is : c.as_str.result.now ≡ get_or names c.loop-at.at (string_bytes c.index-names-at.result)
     = c.as_str.ensures.value ∙ name_at c.args.names.now c.loop-at.at c.index-names-at.result within_names c.index-names-at.is in
-    let cut : IsErrOf c.read_whole.result NoMemory → Noted (g.F.Files.log c.args.files.now) (g.F.Files.log c.read_whole.new.files) (AreReadToCut c.args.limits.now names)
+    let cut : IsErrOf c.read_whole.result NoMemory → AddsNotesOf (g.F.Files.log c.args.files.now) (g.F.Files.log c.read_whole.new.files) (AreReadToCut c.args.limits.now names)
     = λ lack. cut_next c.args.limits.now names c.loop-at.at (get_or c.args.limits.now c.loop-at.at 0) 0 c.as_str.result.now (string_bytes c.index-names-at.result) as_many within refl name_is
     _ _ _ c.loop-at.invariant.through (c.read_whole.ensures.cut lack) in
     search rules
@@ -78,7 +78,7 @@ loop-at-preserved g c =
     let text : ReadUpTo limit (g.F.Files.text c.args.files.now c.as_str.result.now) c.in_ok-text.text
     = subst (λ (told : Option (List ℕ)). ReadUpTo limit told c.in_ok-text.text) (same.texts c.as_str.result.now) c.in_ok-text.ensures.text in
     let pushed : c.push.new.self ≡ c.loop-at.texts ++ c.in_ok-text.text ∷ [] = search rules in
-    let mid : FilesSeen = files_seen (g.F.Files.text c.loop-at.files) (g.F.Files.unreadable c.loop-at.files) (g.F.Files.log c.loop-at.files) (g.F.Files.read_faults c.loop-at.files) (g.F.Files.write_faults c.loop-at.files) in
+    let mid : FilesView = files_view (g.F.Files.text c.loop-at.files) (g.F.Files.unreadable c.loop-at.files) (g.F.Files.log c.loop-at.files) (g.F.Files.read_faults c.loop-at.files) (g.F.Files.write_faults c.loop-at.files) in
     record {
       read = rw pushed (read_next c.args.limits.now names c.loop-at.at limit 0 c.as_str.result.now (string_bytes c.index-names-at.result) as_many within refl name_is _ _ _ c.loop-at.invariant.read text);
       readable = readable_next c.args.limits.now names c.loop-at.at limit 0 c.as_str.result.now (string_bytes c.index-names-at.result) as_many within refl name_is _ c.loop-at.invariant.readable

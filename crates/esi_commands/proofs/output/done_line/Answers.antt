@@ -1,5 +1,5 @@
 use Rattle.std.proofs.Common.{length, ap, ◌∙◌, arith}
-use Rattle.cycle_rules.specs.One.{simulation_of}
+use Rattle.cycle_rules.specs.PipeSimulation.{simulation_of}
 use Rattle.esi_commands.proofs.LineLemmas.{done_pieces, done_length}
 use Rattle.esi_commands.proofs.output.done_line.Goals as goal
 

@@ -3,4 +3,4 @@ use Rattle.esi_commands.proofs.LineLemmas.{got_length}
 use Rattle.esi_commands.proofs.output.push_got_line.Goals as goal
 
 pub returns-clause-short : goal.returns-clause-short
-returns-clause-short c = got_length c.args.moved.now (omega arith) c.push_octets.ensures.few
+returns-clause-short c = got_length c.args.transfer.now (omega arith) c.push_octets.ensures.few

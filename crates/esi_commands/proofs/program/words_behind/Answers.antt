@@ -1,7 +1,7 @@
 use Rattle.std.proofs.Common.{◌∙◌}
 use Rattle.esi_commands.proofs.program.words_behind.Goals as goal
 
--- a whole run of what stands behind the first argument is a whole run of the arguments without the first item
+-- a whole run of what stands after the first argument is a whole run of the arguments without the first item
 pub returns : goal.returns
 returns g c =
     let behind = c.in_ok-words.ensures.runs tt in

@@ -20,7 +20,7 @@ loop-piece-preserved g c =
     let longer : length c.read_piece.new.octets ≡ length c.loop-piece.octets + c.in_ok-read_piece.field-0 = c.in_ok-read_piece.ensures.read.longer in
     let some : 0 < c.in_ok-read_piece.field-0 = omega arith in
     record {
-      front = search rules;
+      prefix = search rules;
       within = search rules;
       texts = search rules;
       readable = search rules;

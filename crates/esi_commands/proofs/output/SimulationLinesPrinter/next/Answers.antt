@@ -1,5 +1,5 @@
 use Rattle.std.proofs.Common.{length, ap, arith}
-use Rattle.cycle_rules.specs.One.{simulation_of}
+use Rattle.cycle_rules.specs.PipeSimulation.{simulation_of}
 use Rattle.esi_commands.specs.Output.{done_line}
 use Rattle.esi_commands.proofs.LineLemmas.{behind_all, piece_more, piece_last, whole_piece}
 use Rattle.esi_commands.proofs.output.SimulationLinesPrinter.next.Goals as goal
