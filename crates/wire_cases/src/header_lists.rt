@@ -1,0 +1,105 @@
+//! Header lists, written by one encoder.
+ghost use Rattle.std.specs.Prelude.{◌≡◌, ◌≤◌, ◌+◌, IsTrue, IfSome};
+ghost use Rattle.hpack.specs.Tables.{list_size, size_of};
+
+use crate::{header_blocks, octets};
+use esi_base::{List, NoMemory, Octets};
+use hpack::{Decoder, Encoder, Header, Headers, MAX_HEADER_LIST_SIZE};
+use std::alloc::Global;
+
+/// What each header counts beside its name and value (RFC 9113, section 10.5.1).
+const ENTRY_OVERHEAD: usize = 32;
+
+/// The octets of blocks of names and values, with `|` between the blocks, that one encoder writes, and
+/// how one decoder reads a block that it reads as another list. None where the text is none.
+pub fn written(alloc: Global, text: &str) -> Result<Option<String>, NoMemory> {
+    let mut encoder = Encoder::new(alloc)?;
+    let mut decoder = Decoder::new(alloc)?;
+    let mut answer = String::new(alloc);
+    for (at, block) in text.split("|").enumerate() {
+        let Some(headers) = headers_of(alloc, block)? else {
+            return Ok(None);
+        };
+        let mut out = Octets::new(alloc);
+        if !write(&mut encoder, &headers, &mut out)? {
+            return Ok(None);
+        }
+        if at > 0 {
+            answer.push_str(" | ")?;
+        }
+        let digits = octets::digits_of(alloc, out.as_slice())?;
+        answer.push_str(digits.as_str())?;
+        let due = header_blocks::of_headers(alloc, headers.as_slice())?;
+        let read = header_blocks::headers_of(alloc, &mut decoder, out.as_slice())?;
+        if read.as_str() != due.as_str() {
+            answer.push_str(", but read as ")?;
+            answer.push_str(read.as_str())?;
+        }
+        encoder.limit(0);
+        encoder.limit(4_096);
+    }
+    Ok(Some(answer))
+}
+
+/// Headers of names and values, one after another; None where the text is none.
+fn headers_of(alloc: Global, text: &str) -> Result<Option<Headers>, NoMemory> {
+    let Some(parts) = octets::items_of(alloc, text)? else {
+        return Ok(None);
+    };
+    let mut headers = List::new(alloc);
+    let mut rest = parts.as_slice();
+    for _ in 0..u32::MAX {
+        match rest {
+            [name, value, more @ ..] => {
+                headers.add(header(alloc, name.as_slice(), value.as_slice())?)?;
+                rest = more;
+            }
+            _ => break,
+        }
+    }
+    if rest.is_empty() {
+        Ok(Some(headers))
+    } else {
+        Ok(None)
+    }
+}
+
+/// A header of a name and a value.
+pub fn header(alloc: Global, name: &[u8], value: &[u8]) -> Result<Header, NoMemory> {
+    Ok(Header {
+        name: Octets::from_slice(alloc, name)?,
+        value: Octets::from_slice(alloc, value)?,
+    })
+}
+
+/// Writes headers; whether their size is small enough.
+pub fn write(encoder: &mut Encoder, headers: &Headers, out: &mut Octets) -> Result<bool, NoMemory> {
+    if !is_small(headers.as_slice()) {
+        return Ok(false);
+    }
+    encoder.block(headers, out)?;
+    Ok(true)
+}
+
+/// Whether the size of headers is small enough.
+fn is_small(headers: &[Header]) -> bool
+    ensures { IsTrue result → list_size headers.now ≤ MAX_HEADER_LIST_SIZE }
+{
+    let mut room = MAX_HEADER_LIST_SIZE;
+    for header in headers {
+        let Some(rest) = room_after(room, header) else {
+            return false;
+        };
+        room = rest;
+    }
+    true
+}
+
+/// What is left of a room after a header, where it fits.
+fn room_after(room: usize, header: &Header) -> Option<usize>
+    ensures { IfSome result (λ rest. rest + size_of header.now ≡ room) }
+{
+    let after_name = room.checked_sub(header.name.len())?;
+    let after_value = after_name.checked_sub(header.value.len())?;
+    after_value.checked_sub(ENTRY_OVERHEAD)
+}

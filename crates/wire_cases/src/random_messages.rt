@@ -1,0 +1,195 @@
+//! Random fields, messages, calls and texts, written and read again.
+
+use crate::numbers::Numbers;
+use crate::{calls, fields, huffman, messages, octets, random, written_messages};
+use esi_base::{List, NoMemory, Octets};
+use grpc_calls::Deframer;
+use hpack_huffman::{huff_decode, huff_encode};
+use proto_wire::write_varint;
+use std::alloc::Global;
+
+/// Whether 0 to 7 random fields are read as they were written.
+pub fn fields_come_back(alloc: Global, numbers: &mut Numbers) -> Result<bool, NoMemory> {
+    let mut out = Octets::new(alloc);
+    let mut due = String::new(alloc);
+    for _ in 0..numbers.below(8) {
+        let number = field_number(numbers);
+        let value = match numbers.below(4) {
+            0 => {
+                let value = varint(numbers);
+                write_varint(&mut out, u64::from(number) * 8)?;
+                write_varint(&mut out, value)?;
+                format!(in alloc; "varint {value}")?
+            }
+            1 => {
+                let value = varint(numbers);
+                write_varint(&mut out, u64::from(number) * 8 + 1)?;
+                out.push_all(&value.to_le_bytes())?;
+                format!(in alloc; "fixed64 {value}")?
+            }
+            2 => {
+                let value = numbers.next();
+                write_varint(&mut out, u64::from(number) * 8 + 5)?;
+                out.push_all(&value.to_le_bytes())?;
+                format!(in alloc; "fixed32 {value}")?
+            }
+            _ => {
+                let octets = random::octets(alloc, numbers, 200)?;
+                fields::write_octets(&mut out, number, octets.as_slice())?;
+                let octets = octets::text_of(alloc, octets.as_slice())?;
+                format!(in alloc; "octets {octets}")?
+            }
+        };
+        let after = out.len();
+        let field = format!(in alloc; "{number}: {value} to {after}, ")?;
+        due.push_str(field.as_str())?;
+    }
+    due.push_str("end")?;
+    let read = fields::fields_of(alloc, out.as_slice())?;
+    Ok(read.as_str() == due.as_str())
+}
+
+/// The number of a field: often a small one, sometimes any.
+fn field_number(numbers: &mut Numbers) -> u32 {
+    if numbers.coin() {
+        numbers.below(20) + 1
+    } else {
+        numbers.below(536_870_911) + 1
+    }
+}
+
+/// A number of any length.
+fn varint(numbers: &mut Numbers) -> u64 {
+    let high = u64::from(numbers.next()) << 32;
+    let bits = numbers.below(64);
+    (high + u64::from(numbers.next())) >> bits
+}
+
+/// Whether a random message of one of the five kinds is read as it was written.
+pub fn message_comes_back(alloc: Global, numbers: &mut Numbers) -> Result<bool, NoMemory> {
+    let mut parts = List::new(alloc);
+    let (kind, due) = match numbers.below(5) {
+        0 => ("addressed", add_addressed(alloc, numbers, &mut parts)?),
+        1 => ("channel", add_channel(alloc, numbers, &mut parts)?),
+        2 => ("channels", add_channels(alloc, numbers, &mut parts)?),
+        3 => ("data", add_data(alloc, numbers, &mut parts)?),
+        _ => ("void", String::from_str(alloc, "void")?),
+    };
+    let mut out = Octets::new(alloc);
+    if !written_messages::write_kind(alloc, kind, parts.as_slice(), &mut out)? {
+        return Ok(false);
+    }
+    match messages::message_of(alloc, kind, out.as_slice())? {
+        Some(read) => Ok(read.as_str() == due.as_str()),
+        None => Ok(false),
+    }
+}
+
+/// Adds the parts of a message for a channel, and gives it as text.
+fn add_addressed(
+    alloc: Global,
+    numbers: &mut Numbers,
+    parts: &mut List<Octets>,
+) -> Result<String, NoMemory> {
+    let name = random::letters(alloc, numbers, 40)?;
+    let data = random::octets(alloc, numbers, 400)?;
+    let channel = octets::text_of(alloc, name.as_slice())?;
+    let digits = octets::digits_of(alloc, data.as_slice())?;
+    parts.add(name)?;
+    parts.add(data)?;
+    Ok(format!(in alloc; "channel {channel}, data {digits}")?)
+}
+
+/// Adds the parts of a channel's description, and gives it as text.
+fn add_channel(
+    alloc: Global,
+    numbers: &mut Numbers,
+    parts: &mut List<Octets>,
+) -> Result<String, NoMemory> {
+    let name = random::letters(alloc, numbers, 40)?;
+    let direction = (numbers.next() % 2) as u8;
+    let ty = random::letters(alloc, numbers, 90)?;
+    let name_text = octets::text_of(alloc, name.as_slice())?;
+    let ty_text = octets::text_of(alloc, ty.as_slice())?;
+    parts.add(name)?;
+    parts.add(Octets::from_slice(alloc, &[direction])?)?;
+    parts.add(ty)?;
+    Ok(format!(in alloc; "name {name_text}, direction {direction}, type {ty_text}")?)
+}
+
+/// Adds the parts of 0 to 5 channels, and gives the list as text.
+fn add_channels(
+    alloc: Global,
+    numbers: &mut Numbers,
+    parts: &mut List<Octets>,
+) -> Result<String, NoMemory> {
+    let count = numbers.below(6);
+    let mut text = format!(in alloc; "{count} channels")?;
+    for _ in 0..count {
+        let channel = add_channel(alloc, numbers, parts)?;
+        text.push_str("; ")?;
+        text.push_str(channel.as_str())?;
+    }
+    Ok(text)
+}
+
+/// Adds the octets of a value, and gives the message as text.
+fn add_data(
+    alloc: Global,
+    numbers: &mut Numbers,
+    parts: &mut List<Octets>,
+) -> Result<String, NoMemory> {
+    let data = random::octets(alloc, numbers, 400)?;
+    let digits = octets::digits_of(alloc, data.as_slice())?;
+    parts.add(data)?;
+    Ok(format!(in alloc; "data {digits}")?)
+}
+
+/// Whether 0 to 5 random messages with their prefixes, cut anyhow, are read as they were written.
+pub fn calls_come_back(alloc: Global, numbers: &mut Numbers) -> Result<bool, NoMemory> {
+    let mut out = Octets::new(alloc);
+    let mut due = String::new(alloc);
+    for _ in 0..numbers.below(6) {
+        let message = random::octets(alloc, numbers, 300)?;
+        calls::write(message.as_slice(), &mut out)?;
+        let digits = octets::digits_of(alloc, message.as_slice())?;
+        due.push_str(digits.as_str())?;
+        due.push_str(", ")?;
+    }
+    let mut deframer = Deframer::new(alloc, 300);
+    let mut read = String::new(alloc);
+    let mut rest = out.as_slice();
+    let mut is_pending = true;
+    for _ in 0..u32::MAX {
+        if rest.is_empty() {
+            break;
+        }
+        let count = (numbers.below(60) as usize + 1).min(rest.len());
+        let end = calls::feed(alloc, &mut deframer, &rest[..count], &mut read)?;
+        is_pending = end == "pending";
+        rest = &rest[count..];
+    }
+    Ok(read.as_str() == due.as_str() && is_pending)
+}
+
+/// Whether a random text comes back from its Huffman code.
+pub fn text_comes_back(alloc: Global, numbers: &mut Numbers) -> Result<bool, NoMemory> {
+    let text = random::octets(alloc, numbers, 200)?;
+    let mut code = Octets::new(alloc);
+    huff_encode(text.as_slice(), &mut code)?;
+    let due = octets::text_of(alloc, text.as_slice())?;
+    let read = huffman::text_of_code(alloc, code.as_slice())?;
+    Ok(read.as_str() == due.as_str())
+}
+
+/// Whether random octets, where they are the Huffman code of a text, are the code that is written for it.
+pub fn code_comes_back(alloc: Global, numbers: &mut Numbers) -> Result<bool, NoMemory> {
+    let code = random::octets(alloc, numbers, 12)?;
+    let mut text = Octets::new(alloc);
+    if huff_decode(code.as_slice(), &mut text).is_err() {
+        return Ok(text.is_empty());
+    }
+    let mut written = Octets::new(alloc);
+    huff_encode(text.as_slice(), &mut written)?;
+    Ok(written.as_slice() == code.as_slice())
+}
