@@ -1,4 +1,4 @@
-//! Length-prefixed messages.
+//! Streams of length-prefixed messages.
 ghost use Rattle.std.specs.Prelude.{◌<◌, ◌≤◌, length};
 
 use esi_base::{Octets, Poll};
@@ -32,7 +32,7 @@ fn read_once(alloc: Global, stream: &[u8], piece: usize) -> Option<usize>
     Some(made)
 }
 
-/// Takes the messages that stand whole, and counts them; None for a refusal or want of memory.
+/// Takes the messages that stand whole, and counts them; None for a refusal or out of memory.
 fn take_messages(deframer: &mut Deframer) -> Option<usize> {
     let mut count = 0;
     for taken in 0..u32::MAX {

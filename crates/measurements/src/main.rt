@@ -1,10 +1,12 @@
-//! Does the work of a codec many times, so that a script can time it (bench/codecs).
+//! Does one piece of work many times, so that a script can time it (the folder `bench`).
 #![tactic(auto)]
 
-mod deframing;
+mod frames;
 mod headers;
 mod huffman;
 mod messages;
+mod streams;
+mod types;
 mod work;
 
 use crate::work::Work;
@@ -12,28 +14,30 @@ use esi_links::{DiskFiles, read_whole};
 use std::process::ExitCode;
 use std::{env, io};
 
-/// The longest file, in octets.
+/// The longest file, in octets: above what the longest measurement takes.
 const LONGEST_FILE: usize = 67_108_864;
 
-/// `codec_bench WORK ROUNDS FILE` does the work so often on the octets that the file holds, and prints
-/// how many octets a round made. Other words, a file that cannot be read, octets that are not what the
-/// work is for, and want of memory end with status 1.
+const _: () = prove!(LONGEST_FILE == 67108864);
+
+/// `measurements WORK ROUNDS FILE` does the work so often on the octets that the file holds, and prints
+/// what a round made: octets, or what the work counts. Other words, a file that cannot be read, octets
+/// that are not what the work is for, and out of memory end with status 1.
 fn main(rt: HostRuntime) -> io::Result<ExitCode> {
     let mut words = Vec::new(rt.alloc());
     for word in env::args(&rt)?.skip(1) {
         words.push(word)?;
     }
-    match made_octets(&rt, words.as_slice())? {
-        Some(octets) => {
-            println!(rt; "octets {octets}")?;
+    match made_by_words(&rt, words.as_slice())? {
+        Some(made) => {
+            println!(rt; "made {made}")?;
             Ok(ExitCode::from(0))
         }
         None => Ok(ExitCode::from(1)),
     }
 }
 
-/// The octets that a round made, None where the words or the file are not what they should be.
-fn made_octets(rt: &HostRuntime, words: &[String]) -> io::Result<Option<usize>> {
+/// What a round made, None where the words or the file are not what they should be.
+fn made_by_words(rt: &HostRuntime, words: &[String]) -> io::Result<Option<usize>> {
     let alloc = rt.alloc();
     let [work, rounds, name] = words else {
         return Ok(None);
