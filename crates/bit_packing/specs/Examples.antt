@@ -10,7 +10,7 @@ use Rattle.channel_types.specs.declared.esi_type.EsiType.TheVariants as V
 use Rattle.channel_types.specs.declared.esi_type.Field.{Field}
 use Rattle.bit_packing.specs.declared.value.Value.{Value}
 use Rattle.bit_packing.specs.declared.value.Value.TheVariants as W
-use Rattle.bit_packing.specs.declared.value.Value.TheVariants.{outs-Number, outs-Void, outs-Struct, outs-Array}
+use Rattle.bit_packing.specs.declared.value.Value.TheVariants.{outs-Number, outs-Struct, outs-Array}
 use Rattle.bit_packing.specs.declared.octets.Unpacked.TheVariants.{Count, Spare, VoidBit}
 use Rattle.bit_packing.specs.Packing.{own_bits, parts_of, first_highest, first_lowest, bits_of_value, field_bits}
 use Rattle.bit_packing.specs.Equations.{bits-Bits, bits-Struct, bits-Array, bits-field, voids-Bits, voids-Void}

@@ -1,7 +1,7 @@
 -- A small command, which shows every part of an account: `FIRST SECOND PREFIX` reads two files, writes PREFIX.v with the first text and
 -- PREFIX.json with the second, prints both, and comes to the end that the first octet of the second text names, with the second text as
 -- its closing lines.
-use Rattle.std.specs.Prelude.{ℕ, ◌==◌, nat_lt, Bool, true, false, List, [], ◌∷◌, ◌++◌, length, Option, Some, Result, Ok, Err, if◌then◌else◌, codes}
+use Rattle.std.specs.Prelude.{ℕ, ◌==◌, nat_lt, Bool, false, List, [], ◌∷◌, ◌++◌, length, Some, Ok, Err, if◌then◌else◌, codes}
 use Rattle.endpoint_hub.specs.declared.journal.Report.{Report}
 use Rattle.command_runs.specs.Account.{Account}
 use Rattle.command_runs.specs.Work.{Effects, Work}

@@ -1,5 +1,5 @@
 -- The laws of the small command.
-use Rattle.std.proofs.Common.{◌≡◌, ◌⊎◌, ℕ, ◌+◌, ◌==◌, nat_lt, Bool, true, false, if◌then◌else◌, List, [], ◌∷◌, ◌++◌, length, take, Result, Ok, Err, codes, inl, inr, refl, sym, ◌∙◌, ap, arith}
+use Rattle.std.proofs.Common.{◌≡◌, ℕ, ◌+◌, ◌==◌, nat_lt, Bool, true, false, if◌then◌else◌, List, [], ◌∷◌, length, take, Ok, Err, codes, inl, inr, refl, sym, ◌∙◌, ap, arith}
 use Rattle.std.proofs.lemmas.List.{length-take, take_all}
 use Rattle.std.proofs.lemmas.Bool.{cases_lt, lt-ltb}
 use Rattle.command_runs.specs.Account.{Among, cut_texts}
@@ -8,7 +8,7 @@ use Rattle.command_runs.specs.Work.{Work}
 use Rattle.command_runs.specs.declared.finish.End.{End}
 use Rattle.command_runs.specs.declared.finish.End.TheVariants.{Done, LinkFault, PeerFault, PeerStatus, Unfinished, TurnsSpent}
 use Rattle.command_cases.specs.declared.small.TheConstants.{LONGEST_TEXT}
-use Rattle.command_cases.specs.SmallCommand.{small_meaning, small_work, too_long, effects_by, end_by, end_of}
+use Rattle.command_cases.specs.SmallCommand.{small_meaning, too_long, effects_by, end_of}
 
 -- a test for more than the limit comes out alike on a text and on its prefix up to one octet more
 cut_text : {A : Type 0} (limit : ℕ) (text : List ℕ) (long : A) (meaning : List ℕ → A)

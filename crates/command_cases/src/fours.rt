@@ -1,5 +1,4 @@
 //! A text that is given out in pieces of four octets.
-ghost use Rattle.std.specs.Prelude.{◌≡◌};
 
 use command_runs::{Finish, Printer};
 use esi_base::{NoMemory, Octets};

@@ -3,8 +3,8 @@ ghost use Rattle.std.specs.Prelude.{◌≡◌, ◌++◌, ◌∷◌, [], IfOk, On
 ghost use Rattle.esi_base.specs.Answers.{AnswersAs};
 ghost use Rattle.command_runs.specs.Account.{StaysWithin, effects_of};
 ghost use Rattle.command_cases.specs.FoursLeft.{fours_left, fours_finish};
-ghost use Rattle.command_cases.specs.SmallCommand.{small_account, small_meaning, no_promise, small_work, effects_by, files_of, finish_of, end_of, end_by, keeps_of, empty_report, too_long as too_long_in};
-ghost use Rattle.command_cases.specs.SmallLaws.{small_cut, small_ends};
+ghost use Rattle.command_cases.specs.SmallCommand.{small_account, small_work, effects_by, files_of, finish_of, end_of, end_by, keeps_of, too_long as too_long_in};
+ghost use Rattle.command_cases.specs.SmallLaws.{small_cut};
 
 use crate::fours::Fours;
 use command_runs::{Command, End, FileRefusal, FileText, Finish, Output, Suffix, Target, WorkStop};

@@ -1,5 +1,5 @@
 //! What a command prints: its lines, piece by piece, and its closing lines.
-ghost use Rattle.std.specs.Prelude.{◌≡◌, ◌≤◌, ◌<◌, ◌++◌, [], Bool, true, false, length, IfOk, OnOk, IsErrOf};
+ghost use Rattle.std.specs.Prelude.{◌≡◌, ◌≤◌, ◌<◌, ◌++◌, [], true, false, length, IfOk, OnOk, IsErrOf};
 ghost use Rattle.esi_links.specs.Counts.{HasCause};
 ghost use Rattle.esi_links.specs.Growth.{Grows, GrowsByPrefix};
 ghost use Rattle.command_runs.specs.CarryOut.{EndsInPrint};

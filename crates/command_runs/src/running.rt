@@ -1,5 +1,5 @@
 //! A command is run: conducted and concluded.
-ghost use Rattle.std.specs.Prelude.{◌≡◌, map, string_bytes};
+ghost use Rattle.std.specs.Prelude.{map, string_bytes};
 ghost use Rattle.command_runs.specs.Outside.{outside_of};
 ghost use Rattle.command_runs.specs.Ran.{Runs};
 

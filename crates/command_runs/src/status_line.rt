@@ -1,5 +1,5 @@
 //! The status's line, which says how a command ended.
-ghost use Rattle.std.specs.Prelude.{◌≡◌, ◌≤◌, ◌<◌, ◌++◌, map, string_bytes, slice_index_or, [], IfOk, length};
+ghost use Rattle.std.specs.Prelude.{◌≡◌, ◌≤◌, ◌<◌, map, string_bytes, slice_index_or, [], IfOk, length};
 ghost use Rattle.command_runs.specs.Line.{Concludes, WritesLine, BlamesOne};
 ghost use Rattle.command_runs.specs.Outside.{sink_view};
 ghost use Rattle.command_runs.specs.Statuses.{line_of, line_of_end, refused_line, peer_status_line, numbered_line};

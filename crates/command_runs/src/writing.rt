@@ -1,5 +1,5 @@
 //! The files that a command writes.
-ghost use Rattle.std.specs.Prelude.{◌≡◌, ◌<◌, ◌++◌, ◌∷◌, [], List, length, map, string_bytes, IfOk, OnOk, IsErrOf};
+ghost use Rattle.std.specs.Prelude.{◌≡◌, ◌<◌, length, map, string_bytes, IfOk, OnOk, IsErrOf};
 ghost use Rattle.command_runs.specs.Account.{AreNamed};
 ghost use Rattle.command_runs.specs.CarryOut.{target_name, PutsText, PutsTexts, FailsToPut, FailsAtFile, LacksAtFile};
 ghost use Rattle.command_runs.specs.Outside.{files_view, SameFiles};

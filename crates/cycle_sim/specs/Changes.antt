@@ -1,5 +1,5 @@
 -- What changes from one cycle to the next, and how many nets are evaluated.
-use Rattle.std.specs.Prelude.{◌≡◌, ℕ, ◌==◌, ◌||◌, ◌&&◌, Bool, true, false, not, if◌then◌else◌, List, [], ◌∷◌, Option, Some, None, count_by}
+use Rattle.std.specs.Prelude.{ℕ, ◌==◌, ◌||◌, Bool, true, false, not, if◌then◌else◌, List, [], ◌∷◌, Option, Some, None, count_by}
 use Rattle.std.specs.List.{slice_index_or, slice_set}
 use Rattle.esi_base.specs.Bits.{same_bits}
 use Rattle.netlist.specs.declared.net.Net.{Net}

@@ -1,20 +1,19 @@
 -- The clock: each register takes the word that its next net had, all at once.
-use Rattle.std.specs.Prelude.{◌≡◌, ℕ, zero, suc, ◌+◌, ◌-◌, ◌<◌, ◌≤◌, ◌||◌, Bool, true, false, List, [], ◌∷◌, Option, Some, None, length, map, refl}
-use Rattle.std.proofs.Common.{sym, ◌∙◌, ap, subst, arith, inl, inr, get_or, set}
-use Rattle.std.proofs.lemmas.Bool.{cases_eq, cases_Bool, cases_lt}
+use Rattle.std.specs.Prelude.{◌≡◌, ℕ, ◌+◌, ◌-◌, ◌<◌, ◌≤◌, ◌||◌, Bool, true, false, List, [], ◌∷◌, Option, Some, length, refl}
+use Rattle.std.proofs.Common.{sym, ◌∙◌, ap, subst, arith, inl, inr, set}
+use Rattle.std.proofs.lemmas.Bool.{cases_eq, cases_lt}
 use Rattle.std.proofs.lemmas.Option.{same_Some}
 use Rattle.std.proofs.lemmas.List.{get_or_past, length-set}
 use Rattle.netlist.specs.declared.net.Net.{Net}
-use Rattle.netlist.specs.declared.net.Net.TheVariants.{Input, Register, Const, Not, And, Or, Xor, Add, Sub, Equal, Less, Choose, Slice, Concat}
+use Rattle.netlist.specs.declared.net.Net.TheVariants.{Input, Register, Not}
 use Rattle.netlist.specs.Nets.{Bits, word_at, width_at, sources, is_register, is_computed}
-use Rattle.netlist.specs.Plans.{Plan, net_at, is_register_at, next_of, IsPlan, IsNextOf}
-use Rattle.netlist.specs.PlanLaws.{register_within}
+use Rattle.netlist.specs.Plans.{Plan, net_at, is_register_at, next_of, IsPlan}
 use Rattle.netlist.specs.Settled.{HaveWidths}
-use Rattle.cycle_sim.specs.Changes.{is_changed, some_differs, is_evaluated, is_marked, marks_put}
+use Rattle.cycle_sim.specs.Changes.{some_differs, is_marked, marks_put}
 use Rattle.cycle_sim.specs.ChangeLaws.{same_unchanged, word_at-set_same, word_at-set_other, is_marked-cleared, is_marked-cleared_same}
 use Rattle.cycle_sim.specs.Marks.{IsFirstMark, NoneFrom}
 use Rattle.cycle_sim.specs.Wired.{users_at, is_other_at, AreUsers}
-use Rattle.cycle_sim.specs.Turns.{IsKept, HasState, Begun, begun-put, widths-put}
+use Rattle.cycle_sim.specs.Turns.{HasState, Begun, begun-put, widths-put}
 
 -- a word for each net, of its width
 pub record AreWords (plan : Plan) (words : List Bits) : Type 0 where

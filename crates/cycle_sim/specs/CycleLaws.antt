@@ -1,24 +1,23 @@
 -- A cycle from its begin to its end.
-use Rattle.std.specs.Prelude.{◌≡◌, ℕ, zero, suc, ◌+◌, ◌-◌, ◌<◌, ◌≤◌, Bool, true, false, List, [], ◌∷◌, Option, Some, None, IsSome, length, map, count_by, if◌then◌else◌, refl}
-use Rattle.std.proofs.Common.{sym, ◌∙◌, ap, subst, arith, inl, inr, get_or, set}
-use Rattle.std.proofs.lemmas.Bool.{cases_eq, cases_Bool, cases_lt}
-use Rattle.std.proofs.lemmas.List.{get_or_past, get_or-map}
+use Rattle.std.specs.Prelude.{◌≡◌, ℕ, zero, suc, ◌-◌, ◌<◌, ◌≤◌, Bool, true, false, List, [], ◌∷◌, Option, Some, None, IsSome, length, map, refl}
+use Rattle.std.proofs.Common.{sym, ◌∙◌, ap, subst, arith, inl, inr, get_or}
+use Rattle.std.proofs.lemmas.Bool.{cases_lt}
+use Rattle.std.proofs.lemmas.List.{get_or_past}
 use Rattle.netlist.specs.declared.net.Net.{Net}
-use Rattle.netlist.specs.declared.net.Net.TheVariants.{Input, Register, Const, Not, And, Or, Xor, Add, Sub, Equal, Less, Choose, Slice, Concat}
-use Rattle.netlist.specs.Nets.{Bits, word_at, width_at, is_input, is_register, is_computed, result_of}
-use Rattle.netlist.specs.Plans.{Plan, net_at, is_register_at, next_of, IsPlan, IsComplete}
+use Rattle.netlist.specs.declared.net.Net.TheVariants.{Input, Register, Not}
+use Rattle.netlist.specs.Nets.{Bits, word_at, width_at, is_input, is_register, is_computed}
+use Rattle.netlist.specs.Plans.{Plan, net_at, next_of, IsPlan, IsComplete}
 use Rattle.netlist.specs.PlanLaws.{register_within}
-use Rattle.netlist.specs.Settled.{operands, equation, input_place, IsSettled, AreInputs}
+use Rattle.netlist.specs.Settled.{equation, input_place, AreInputs}
 use Rattle.netlist.specs.InputPlaces.{input_place_within}
 use Rattle.netlist.specs.Runs.{reset_of, taken_from, registers_after}
-use Rattle.cycle_sim.specs.Changes.{is_marked, is_evaluated, steps_of}
-use Rattle.cycle_sim.specs.Marks.{NoneFrom}
+use Rattle.cycle_sim.specs.Changes.{is_marked}
 use Rattle.cycle_sim.specs.Wired.{AreUsers}
-use Rattle.cycle_sim.specs.Turns.{IsKept, HeldBefore, WaitsFor, HasState, Begun, Turning}
-use Rattle.cycle_sim.specs.Passes.{turning_none, turning_settled, turning_counted}
-use Rattle.cycle_sim.specs.Clocks.{AreWords, MarksRegisters, IsCalm, IsReleased}
+use Rattle.cycle_sim.specs.Turns.{HeldBefore, WaitsFor, HasState, Begun, Turning}
+use Rattle.cycle_sim.specs.Passes.{turning_none}
+use Rattle.cycle_sim.specs.Clocks.{IsCalm, IsReleased}
 use Rattle.cycle_sim.specs.Offers.{KeepsInputs, IsOffered}
-use Rattle.cycle_sim.specs.Simulated.{rest_word, last_of, AreAtRest, IsFirst, IsBehind, IsReady, HasRegisters}
+use Rattle.cycle_sim.specs.Simulated.{rest_word, IsFirst, IsBehind, IsReady, HasRegisters}
 
 -- the word of a register behind a cycle
 map_default : {X Y : Type 0} (f : X → Y) (xs : List X) (d : X) (i : ℕ) → get_or (map f xs) i (f d) ≡ f (get_or xs i d)

@@ -1,5 +1,5 @@
 -- A worked example: the nets of one stage of eight bits, between a ready input and a ready output.
-use Rattle.std.specs.Prelude.{◌≡◌, ℕ, Bool, true, false, List, [], ◌∷◌, Option, Some, None, drop, map, replicate, refl}
+use Rattle.std.specs.Prelude.{◌≡◌, true, false, List, [], ◌∷◌, Some, None, drop, map, refl}
 use Rattle.netlist.specs.declared.net.Net.{Net}
 use Rattle.netlist.specs.declared.net.Net.TheVariants.{Input, Register, Not, And, Or, Choose}
 use Rattle.netlist.specs.Nets.{Bits, result_of}

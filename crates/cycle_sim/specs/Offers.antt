@@ -1,15 +1,14 @@
 -- The inputs of a cycle are put, one after another.
-use Rattle.std.specs.Prelude.{◌≡◌, ℕ, zero, suc, ◌+◌, ◌-◌, ◌<◌, ◌≤◌, Bool, true, false, List, [], ◌∷◌, Option, Some, None, length, count_by, refl}
+use Rattle.std.specs.Prelude.{◌≡◌, ℕ, ◌+◌, ◌-◌, ◌<◌, ◌≤◌, Bool, true, false, List, Option, Some, None, length, refl}
 use Rattle.std.proofs.Common.{sym, ◌∙◌, ap, subst, arith, inl, inr, get_or, set}
-use Rattle.std.proofs.lemmas.Bool.{cases_eq, cases_Bool, cases_lt}
+use Rattle.std.proofs.lemmas.Bool.{cases_eq}
 use Rattle.netlist.specs.declared.net.Net.{Net}
-use Rattle.netlist.specs.declared.net.Net.TheVariants.{Input, Register, Const, Not, And, Or, Xor, Add, Sub, Equal, Less, Choose, Slice, Concat}
-use Rattle.netlist.specs.Nets.{Bits, word_at, width_at, width_in, is_input, is_register, is_computed}
+use Rattle.netlist.specs.declared.net.Net.TheVariants.{Input, Register}
+use Rattle.netlist.specs.Nets.{Bits, word_at, width_at, is_input, is_computed}
 use Rattle.netlist.specs.Plans.{Plan, Stands, FitsAt, net_at, is_register_at, IsPlan}
 use Rattle.netlist.specs.PlanLaws.{stands_at}
 use Rattle.netlist.specs.Settled.{input_place, AreInputs}
-use Rattle.netlist.specs.InputPlaces.{input_place_within}
-use Rattle.cycle_sim.specs.Changes.{is_marked, marks_put}
+use Rattle.cycle_sim.specs.Changes.{marks_put}
 use Rattle.cycle_sim.specs.ChangeLaws.{word_at-set_same, word_at-set_other}
 use Rattle.cycle_sim.specs.Wired.{users_at, is_other_at, AreUsers, AreInputPlaces, IsInputPlace}
 use Rattle.cycle_sim.specs.Turns.{IsKept, HasState, Begun, begun-put}

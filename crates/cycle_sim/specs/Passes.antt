@@ -1,22 +1,22 @@
 -- The pass over the marked nets, turn by turn, from its begin to its end.
-use Rattle.std.specs.Prelude.{◌≡◌, ℕ, zero, suc, ◌+◌, ◌-◌, ◌<◌, ◌≤◌, ◌==◌, ◌||◌, ◌&&◌, Bool, true, false, not, List, [], ◌∷◌, Option, Some, None, length, map, take, count_by, refl}
+use Rattle.std.specs.Prelude.{◌≡◌, ℕ, zero, suc, ◌+◌, ◌-◌, ◌<◌, ◌≤◌, ◌||◌, ◌&&◌, Bool, true, false, not, List, [], Option, Some, None, length, count_by, refl}
 use Rattle.std.specs.List.{AllByRecursion}
-use Rattle.std.proofs.Common.{sym, ◌∙◌, ap, subst, arith, inl, inr, get_or, set}
-use Rattle.std.proofs.lemmas.Bool.{cases_eq, cases_Bool, cases_lt}
+use Rattle.std.proofs.Common.{sym, ◌∙◌, ap, subst, arith, inl, inr, set}
+use Rattle.std.proofs.lemmas.Bool.{cases_eq, cases_Bool}
 use Rattle.std.proofs.lemmas.List.{take_all, length-set}
 use Rattle.std.proofs.lemmas.List.Sums.{count_by_more_yes, count_by_more_no}
 use Rattle.netlist.specs.declared.net.Net.{Net}
-use Rattle.netlist.specs.declared.net.Net.TheVariants.{Input, Register, Const, Not, And, Or, Xor, Add, Sub, Equal, Less, Choose, Slice, Concat}
+use Rattle.netlist.specs.declared.net.Net.TheVariants.{Input, Register, Not}
 use Rattle.netlist.specs.Nets.{Bits, word_at, sources, is_computed, result_of}
-use Rattle.netlist.specs.Plans.{Plan, Stands, net_at, is_register_at, next_of, IsPlan}
+use Rattle.netlist.specs.Plans.{Plan, net_at, is_register_at, IsPlan}
 use Rattle.netlist.specs.PlanLaws.{stands_at, stands_within, net_at-stands, sources_before}
 use Rattle.netlist.specs.Settled.{operands, equation, input_place, IsSettled}
 use Rattle.netlist.specs.SettledLaws.{operands-same}
-use Rattle.cycle_sim.specs.Changes.{is_changed, some_differs, is_evaluated, steps_of, is_marked, is_among, marks_put}
+use Rattle.cycle_sim.specs.Changes.{is_changed, is_evaluated, steps_of, is_marked, marks_put}
 use Rattle.cycle_sim.specs.ChangeLaws.{word_at-set_same, word_at-set_other, is_marked-put, is_marked-cleared, is_marked-cleared_same, evaluated_computed, same_operands, some_differs-set_above, not_among_above, count_agree}
 use Rattle.cycle_sim.specs.Marks.{IsFirstMark, NoneFrom}
 use Rattle.cycle_sim.specs.Wired.{users_at, is_other_at, AreUsers}
-use Rattle.cycle_sim.specs.Turns.{IsKept, HeldBefore, WaitsFor, HasState, Begun, Turning, marked-put, waits-put, user_of_source}
+use Rattle.cycle_sim.specs.Turns.{IsKept, HeldBefore, HasState, Begun, Turning, marked-put, waits-put, user_of_source}
 
 -- what a net reads stands before it
 earlier : (plan : Plan) → IsPlan plan → (i : ℕ) → i < length plan.nets → AllByRecursion (λ j. j < i) (sources (net_at plan.nets i))

@@ -2,10 +2,9 @@
 use Rattle.std.specs.Prelude.{◌≡◌, ℕ, ◌<◌, Bool, true, false, List, Option, Some, None, if◌then◌else◌, length, replicate}
 use Rattle.netlist.specs.declared.net.Net.{Net}
 use Rattle.netlist.specs.declared.net.Net.TheVariants.{Register}
-use Rattle.netlist.specs.Nets.{Bits, word_at, width_at, is_register, is_computed}
+use Rattle.netlist.specs.Nets.{Bits, word_at, width_at, is_computed}
 use Rattle.netlist.specs.Plans.{Plan, net_at, is_register_at}
 use Rattle.netlist.specs.Runs.{registers_after}
-use Rattle.cycle_sim.specs.Changes.{is_marked}
 use Rattle.cycle_sim.specs.Marks.{NoneFrom}
 use Rattle.cycle_sim.specs.Wired.{IsWired}
 use Rattle.cycle_sim.specs.Turns.{HeldBefore, HasState, Begun}

@@ -1,21 +1,20 @@
 -- What is made of a netlist before its first cycle.
-use Rattle.std.specs.Prelude.{◌≡◌, ℕ, zero, suc, ◌+◌, ◌<◌, ◌≤◌, ◌++◌, Bool, true, false, not, if◌then◌else◌, List, [], ◌∷◌, Option, Some, None, length, map, take, count_by, replicate, refl}
-use Rattle.std.proofs.Common.{sym, ◌∙◌, ap, subst, arith, inl, inr, get_or, set}
+use Rattle.std.specs.Prelude.{◌≡◌, ℕ, zero, suc, ◌+◌, ◌<◌, ◌≤◌, ◌++◌, Bool, true, false, if◌then◌else◌, List, [], ◌∷◌, Some, None, length, map, count_by}
+use Rattle.std.proofs.Common.{sym, ◌∙◌, ap, subst, arith, inl, inr, get_or}
 use Rattle.std.proofs.lemmas.Bool.{cases_eq, cases_Bool, cases_lt}
 use Rattle.std.proofs.lemmas.List.{get_or_past, get_or-map, length-map, length-replicate, get_or_append_left, get_or_push, length_push, ext_get_or, take_all}
 use Rattle.netlist.specs.declared.net.Net.{Net}
-use Rattle.netlist.specs.declared.net.Net.TheVariants.{Input, Register, Const, Not, And, Or, Xor, Add, Sub, Equal, Less, Choose, Slice, Concat}
-use Rattle.netlist.specs.Nets.{Bits, word_at, width_at, width_in, is_input, is_register, is_computed}
-use Rattle.netlist.specs.Plans.{Plan, FitsAt, net_at, is_register_at, next_of, IsPlan}
+use Rattle.netlist.specs.declared.net.Net.TheVariants.{Input, Register, Not}
+use Rattle.netlist.specs.Nets.{Bits, word_at, width_at, is_input, is_register, is_computed}
+use Rattle.netlist.specs.Plans.{Plan, FitsAt, net_at, next_of, IsPlan}
 use Rattle.netlist.specs.PlanLaws.{stands_at, length_at, register_within}
-use Rattle.netlist.specs.Settled.{input_place, HaveWidths}
-use Rattle.netlist.specs.InputPlaces.{input_place_next, input_place_within}
+use Rattle.netlist.specs.Settled.{input_place}
+use Rattle.netlist.specs.InputPlaces.{input_place_next}
 use Rattle.cycle_sim.specs.Changes.{is_evaluated, is_marked}
-use Rattle.cycle_sim.specs.Marks.{NoneFrom}
 use Rattle.cycle_sim.specs.Wired.{IsInputPlace, AreInputPlaces}
-use Rattle.cycle_sim.specs.Turns.{IsKept, HasState, Begun}
-use Rattle.cycle_sim.specs.Clocks.{AreWords, MarksRegisters, IsCalm}
-use Rattle.cycle_sim.specs.Simulated.{rest_word, AreAtRest, IsFirst, IsReady, HasRoom}
+use Rattle.cycle_sim.specs.Turns.{HasState}
+use Rattle.cycle_sim.specs.Clocks.{AreWords}
+use Rattle.cycle_sim.specs.Simulated.{rest_word, AreAtRest, IsReady, HasRoom}
 
 -- ---- marks by kind
 

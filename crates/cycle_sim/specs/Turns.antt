@@ -1,22 +1,19 @@
 -- A cycle as it goes: what holds of words, marks and registers that wait, before the pass over the marked
 -- nets and at each of its turns.
-use Rattle.std.specs.Prelude.{◌≡◌, ℕ, zero, suc, ◌+◌, ◌<◌, ◌≤◌, ◌==◌, ◌||◌, ◌&&◌, Bool, true, false, not, if◌then◌else◌, All, List, [], ◌∷◌, Option, Some, None, length, map, take, count_by, refl}
+use Rattle.std.specs.Prelude.{◌≡◌, ℕ, ◌+◌, ◌<◌, ◌≤◌, ◌||◌, ◌&&◌, Bool, true, false, not, if◌then◌else◌, List, [], Option, Some, None, length, take, count_by, refl}
 use Rattle.std.specs.Option.{option_to_list}
-use Rattle.std.specs.List.{AllByRecursion}
-use Rattle.std.proofs.Common.{sym, ◌∙◌, ap, subst, arith, inl, inr, get_or, set}
-use Rattle.std.proofs.lemmas.Bool.{cases_eq, cases_Bool, cases_lt, or_parts, or_cases, and_parts, not_from_true, not_from_false, eq-eqb, cond-true, cond-false}
-use Rattle.std.proofs.lemmas.List.{map-set, set-get_or, length-set, length-map, get_or_past, take_all}
-use Rattle.std.proofs.lemmas.List.Sums.{count_by_more_yes, count_by_more_no}
+use Rattle.std.proofs.Common.{sym, ◌∙◌, ap, subst, arith, inl, inr, set}
+use Rattle.std.proofs.lemmas.Bool.{cases_eq, cases_lt, or_parts, or_cases, and_parts, eq-eqb}
+use Rattle.std.proofs.lemmas.List.{map-set, set-get_or, length-set, get_or_past}
 use Rattle.netlist.specs.declared.net.Net.{Net}
-use Rattle.netlist.specs.declared.net.Net.TheVariants.{Input, Register, Const, Not, And, Or, Xor, Add, Sub, Equal, Less, Choose, Slice, Concat}
-use Rattle.netlist.specs.Nets.{Bits, word_at, width_at, sources, is_input, is_register, is_computed, result_of}
-use Rattle.netlist.specs.Plans.{Plan, Stands, net_at, is_register_at, next_of, IsPlan, IsNextOf}
-use Rattle.netlist.specs.PlanLaws.{stands_at, stands_within, net_at-stands, sources_before, register_within}
-use Rattle.netlist.specs.Settled.{operands, equation, input_place, IsSettled, HaveWidths}
-use Rattle.netlist.specs.SettledLaws.{operands-same}
-use Rattle.cycle_sim.specs.Changes.{is_changed, some_differs, is_evaluated, steps_of, is_marked, is_among, with_marks, marks_put}
-use Rattle.cycle_sim.specs.ChangeLaws.{unchanged_same, some_differs-set, word_at-set_same, word_at-set_other, is_marked-put, is_marked-cleared, is_marked-cleared_same, length-marks_put, reader_computed, evaluated_computed, same_operands, some_differs-set_above, not_among_above, count_agree}
-use Rattle.cycle_sim.specs.Wired.{users_at, is_other_at, reads, AreUsers}
+use Rattle.netlist.specs.declared.net.Net.TheVariants.{Input, Register}
+use Rattle.netlist.specs.Nets.{Bits, word_at, width_at, sources, is_register, is_computed, result_of}
+use Rattle.netlist.specs.Plans.{Plan, net_at, is_register_at, next_of, IsPlan}
+use Rattle.netlist.specs.PlanLaws.{register_within}
+use Rattle.netlist.specs.Settled.{operands, equation, input_place, HaveWidths}
+use Rattle.cycle_sim.specs.Changes.{is_changed, is_evaluated, is_marked, is_among, marks_put}
+use Rattle.cycle_sim.specs.ChangeLaws.{unchanged_same, some_differs-set, word_at-set_same, word_at-set_other, is_marked-put, length-marks_put, reader_computed}
+use Rattle.cycle_sim.specs.Wired.{users_at, is_other_at, AreUsers}
 
 -- a word is as in the cycle before, where there was one
 abbrev pub IsKept : Option (List Bits) → List Bits → ℕ → Type 0

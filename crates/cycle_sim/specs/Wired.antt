@@ -1,9 +1,9 @@
 -- The use lists of a netlist and the places of its inputs.
-use Rattle.std.specs.Prelude.{◌≡◌, ℕ, ◌<◌, ◌&&◌, Bool, true, false, not, if◌then◌else◌, All, List, [], ◌∷◌, Option, Some, None, length, count_by}
+use Rattle.std.specs.Prelude.{◌≡◌, ℕ, ◌<◌, Bool, true, not, if◌then◌else◌, All, List, [], Option, length, count_by}
 use Rattle.std.specs.List.{slice_index_or}
 use Rattle.std.specs.Option.{option_to_list}
 use Rattle.netlist.specs.declared.net.Net.{Net}
-use Rattle.netlist.specs.Nets.{is_input, is_register, sources}
+use Rattle.netlist.specs.Nets.{is_input, sources}
 use Rattle.netlist.specs.Plans.{Plan, net_at, is_register_at, next_of, IsComplete}
 use Rattle.netlist.specs.Settled.{input_place}
 use Rattle.cycle_sim.specs.Changes.{is_among}

@@ -1,6 +1,5 @@
 //! The clock.
-ghost use Rattle.std.specs.Prelude.{◌≡◌, ◌<◌, ℕ, length};
-ghost use Rattle.netlist.specs.Plans.{IsComplete};
+ghost use Rattle.std.specs.Prelude.{length};
 ghost use Rattle.cycle_sim.specs.Clocks.{AreWords, MarksRegisters, IsCalm, IsCollected, IsReleased};
 ghost use Rattle.cycle_sim.specs.Marks.{NoneFrom};
 ghost use Rattle.cycle_sim.specs.Wired.{IsWired};

@@ -1,5 +1,5 @@
 //! One cycle: the clock, the inputs, and the pass.
-ghost use Rattle.std.specs.Prelude.{◌≡◌, ◌+◌, ◌<◌, true, length};
+ghost use Rattle.std.specs.Prelude.{◌≡◌, ◌+◌, ◌<◌, true};
 ghost use Rattle.netlist.specs.Settled.{AreInputs, IsSettled};
 ghost use Rattle.netlist.specs.Runs.{registers_after};
 ghost use Rattle.cycle_sim.specs.Changes.{steps_of};

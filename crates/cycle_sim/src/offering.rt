@@ -1,6 +1,6 @@
 //! The inputs of a cycle.
 ghost use Rattle.std.specs.Prelude.{List, Option};
-ghost use Rattle.std.specs.Prelude.{◌≡◌, length};
+ghost use Rattle.std.specs.Prelude.{length};
 ghost use Rattle.netlist.specs.Nets.{Bits};
 ghost use Rattle.netlist.specs.Settled.{AreInputs};
 ghost use Rattle.cycle_sim.specs.Offers.{KeepsInputs, IsOffered};

@@ -1,7 +1,7 @@
 //! The pass over the nets that have to be evaluated, from the first one on.
 ghost use Rattle.std.specs.Prelude.{◌≡◌, ◌+◌, ◌<◌, ℕ, IsTrue, List, Option, length};
 ghost use Rattle.netlist.specs.Nets.{Bits, width_at, is_computed, result_of};
-ghost use Rattle.netlist.specs.Plans.{net_at, IsComplete};
+ghost use Rattle.netlist.specs.Plans.{net_at};
 ghost use Rattle.netlist.specs.Settled.{operands, HaveWidths};
 ghost use Rattle.cycle_sim.specs.Wired.{IsWired};
 ghost use Rattle.cycle_sim.specs.Turns.{HasState, Turning};

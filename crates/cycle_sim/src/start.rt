@@ -1,7 +1,7 @@
 //! What is made of a netlist before its first cycle.
 ghost use Rattle.std.specs.Prelude.{◌≡◌, ◌+◌, ◌<◌, ◌^◌, ◌++◌, ◌∷◌, [], map, false, if◌then◌else◌, IfOk, OnOk, length};
 ghost use Rattle.netlist.specs.Nets.{is_computed, is_input, is_register};
-ghost use Rattle.netlist.specs.Plans.{IsComplete, IsWidth};
+ghost use Rattle.netlist.specs.Plans.{IsWidth};
 ghost use Rattle.cycle_sim.specs.Simulated.{rest_word, AreAtRest};
 ghost use Rattle.cycle_sim.specs.Wired.{AreInputPlaces};
 

@@ -1,7 +1,7 @@
 //! Which nets use each net.
 ghost use Rattle.std.specs.Prelude.{◌≡◌, ◌<◌, [], IfOk, OnOk, length, replicate};
 ghost use Rattle.netlist.specs.Nets.{sources};
-ghost use Rattle.netlist.specs.Plans.{net_at, IsComplete};
+ghost use Rattle.netlist.specs.Plans.{net_at};
 ghost use Rattle.cycle_sim.specs.Wired.{users_at, reads, AreUsers};
 ghost use Rattle.cycle_sim.specs.Users.{noted, noted_all};
 

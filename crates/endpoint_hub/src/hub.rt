@@ -1,5 +1,5 @@
 //! The rings of all channels and the journal.
-ghost use Rattle.std.specs.Prelude.{◌≡◌, ◌↔◌, ◌+◌, ◌-◌, ◌^◌, ◌<◌, ◌≤◌, [], length, replicate, IfOk, OnOk, OnErr, IsErrOf, IsTrue, OnSome, IfNone};
+ghost use Rattle.std.specs.Prelude.{◌≡◌, ◌↔◌, ◌+◌, ◌-◌, ◌^◌, ◌<◌, ◌≤◌, [], length, replicate, IfOk, OnOk, OnErr, IsErrOf, OnSome, IfNone};
 ghost use Rattle.cycle_rules.specs.Rings.{has_room, ring_at, front_of};
 ghost use Rattle.endpoint_hub.specs.declared.hub.PutStop.TheVariants.{NoMemory as put_no_memory};
 ghost use Rattle.endpoint_hub.specs.Holdings.{IsNew, Takes, Pops, Pushes, Hands, BeginsCycle};

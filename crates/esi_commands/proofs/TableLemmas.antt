@@ -1,9 +1,7 @@
 -- Words that begin with a row's word run the command of that row, and of no other.
-use Rattle.std.proofs.Common.{◌≡◌, zero, suc, ℕ, ◌∷◌, [], List, Bool, true, false, if◌then◌else◌, Global, String, length, take, drop, map, get_or, ◌-◌, ◌≤◌, refl, sym, ◌∙◌, ap, subst, inl, inr, arith}
+use Rattle.std.proofs.Common.{◌≡◌, zero, suc, ℕ, ◌∷◌, [], List, Bool, true, false, if◌then◌else◌, String, ◌-◌, refl, sym, ◌∙◌, ap, subst, inl, inr, arith}
 use Rattle.std.specs.Str.{bytes_eq}
-use Rattle.std.specs.String.{string_bytes}
 use Rattle.std.proofs.lemmas.Slice.Eq.{bytes_eq-Decides}
-use Rattle.std.proofs.lemmas.List.{length-map, take_all}
 use Rattle.command_runs.specs.declared.outcome.Outcome.{Outcome}
 use Rattle.command_runs.specs.Account.{Account, Among}
 use Rattle.command_runs.specs.Outside.{Outside}

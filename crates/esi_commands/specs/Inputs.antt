@@ -1,5 +1,5 @@
 -- What a design and a stimulus ask of a simulation, and which of them is refused.
-use Rattle.std.specs.Prelude.{◌≡◌, ◌<◌, ℕ, ◌&&◌, nat_le, Bool, Result, Ok, Err, List, [], ◌∷◌, if◌then◌else◌, codes}
+use Rattle.std.specs.Prelude.{ℕ, ◌&&◌, nat_le, Bool, Result, Ok, Err, List, [], ◌∷◌, if◌then◌else◌, codes}
 use Rattle.std.specs.Str.{bytes_eq}
 use Rattle.esi_base.specs.Answers.{◌>>=◌}
 use Rattle.esi_base.specs.declared.place.Place.{Place}

@@ -1,6 +1,5 @@
 -- The table of commands, and what it is to run words.
-use Rattle.std.specs.Prelude.{◌≡◌, zero, suc, ℕ, ◌&&◌, Bool, true, not, List, [], ◌∷◌, length, codes}
-use Rattle.std.specs.Str.{bytes_eq}
+use Rattle.std.specs.Prelude.{◌≡◌, zero, suc, ℕ, List, [], ◌∷◌, length, codes}
 use Rattle.command_runs.specs.declared.outcome.Outcome.{Outcome}
 use Rattle.command_runs.specs.Account.{Account}
 use Rattle.command_runs.specs.Outside.{Outside}

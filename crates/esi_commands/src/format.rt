@@ -1,5 +1,5 @@
 //! `format DESIGN`: prints a design as its canonical text.
-ghost use Rattle.std.specs.Prelude.{◌≡◌, map, string_bytes};
+ghost use Rattle.std.specs.Prelude.{map, string_bytes};
 ghost use Rattle.command_runs.specs.Outside.{outside_of};
 ghost use Rattle.command_runs.specs.Ran.{Runs};
 ghost use Rattle.esi_commands.specs.Format.{format_account};

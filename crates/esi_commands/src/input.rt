@@ -1,14 +1,12 @@
 //! The checked input of a simulation: what a design and a stimulus ask for, and which of them is
 //! refused.
-ghost use Rattle.std.specs.Prelude.{◌≡◌, ◌≤◌, ◌<◌, ◌^◌, All, IfOk};
-ghost use Rattle.std.specs.Str.{bytes_eq};
+ghost use Rattle.std.specs.Prelude.{◌≡◌, ◌≤◌, ◌<◌, All, IfOk};
 ghost use Rattle.esi_base.specs.Answers.{Reads, IfRefused};
 ghost use Rattle.cycle_rules.specs.Simulation.{cycles_in};
 ghost use Rattle.channel_types.specs.Types.{IsGoodType};
 ghost use Rattle.esi_text.specs.TypesIn.{types_in};
 ghost use Rattle.esi_commands.specs.Inputs.{pipe_of, stages_of, stages_in, type_of_pipe, no_pipe, actions_of_text, action_of, actions_of, word_of, input_of, stimulus_refusal};
 ghost use Rattle.stimulus_text.specs.declared.limits.TheConstants.{STIMULUS_CYCLES};
-ghost use Rattle.esi_commands.specs.SimulationRules.{refusal_by};
 
 use crate::limits::MOST_STAGES;
 use crate::simulation_rule::SimulationRule;

@@ -1,5 +1,5 @@
 //! `sim DESIGN STIM`: simulates a design by a stimulus, and prints what it hands out.
-ghost use Rattle.std.specs.Prelude.{◌≡◌, map, string_bytes};
+ghost use Rattle.std.specs.Prelude.{map, string_bytes};
 ghost use Rattle.command_runs.specs.Outside.{outside_of};
 ghost use Rattle.command_runs.specs.Ran.{Runs};
 ghost use Rattle.esi_commands.specs.Sim.{sim_account};

@@ -1,5 +1,5 @@
 //! What the files in memory share: texts by name, and the reading of a piece of one.
-ghost use Rattle.std.specs.Prelude.{◌≡◌, ◌-◌, List, Option, Some, length, take, drop, min, OnOk, OnErr};
+ghost use Rattle.std.specs.Prelude.{◌≡◌, ◌-◌, Some, length, take, drop, min, OnOk, OnErr};
 ghost use Rattle.std.specs.BTreeMap.{get_by_text};
 ghost use Rattle.esi_links.specs.Texts.{SameTexts, SameElsewhere};
 

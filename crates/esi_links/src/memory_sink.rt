@@ -1,5 +1,5 @@
 //! A sink in memory, of which chosen writes fail.
-ghost use Rattle.std.specs.Prelude.{◌≡◌, ◌<◌, ◌≤◌, [], ℕ, Some, length, take, true, ◌↔◌, IfOk, OnOk, OnErr, IsErrOf};
+ghost use Rattle.std.specs.Prelude.{◌≡◌, ◌<◌, ◌≤◌, [], length, take, true, ◌↔◌, IfOk, OnOk, OnErr, IsErrOf};
 ghost use Rattle.esi_links.specs.Counts.{HasCause};
 ghost use Rattle.esi_links.specs.Growth.{Grows};
 

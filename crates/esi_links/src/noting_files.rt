@@ -1,7 +1,6 @@
 //! Files that tell the log of their reads.
-ghost use Rattle.std.specs.Prelude.{◌≡◌, ◌<◌, ◌≤◌, ◌+◌, ◌-◌, ◌++◌, ◌∷◌, [], ℕ, List as Listed, Option, Some, OnOk, OnErr, length, take};
+ghost use Rattle.std.specs.Prelude.{◌≡◌, ◌<◌, ◌+◌, ◌-◌, ◌++◌, ◌∷◌, [], Option, Some, OnOk, OnErr, length, take};
 ghost use Rattle.esi_links.specs.ReadLog.{notes_of, read_note as note_of};
-ghost use Rattle.esi_links.specs.declared.note.Note.{Note as ReadNote};
 
 use crate::{Files, Note, OutStop};
 use esi_base::{List, NoMemory, Octets};

@@ -1,5 +1,5 @@
 //! A sink over a writer of the system.
-ghost use Rattle.std.specs.Prelude.{◌≡◌, ◌<◌, ◌≤◌, ℕ, List, Option, None, length, IfOk, OnOk, IsErrOf};
+ghost use Rattle.std.specs.Prelude.{◌≡◌, ◌<◌, ◌≤◌, None, length, IfOk, OnOk, IsErrOf};
 ghost use Rattle.esi_links.specs.Counts.{HasCause};
 
 use crate::system::offer_to;

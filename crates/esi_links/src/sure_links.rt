@@ -1,5 +1,5 @@
 //! Links in memory that never fail.
-ghost use Rattle.std.specs.Prelude.{◌≡◌, ◌<◌, ◌≤◌, ◌++◌, ◌∷◌, [], List as Listed, Option, Some, IsTrue, true, false, length, take, drop, IfOk, OnOk, OnErr, IfSome, IsErrOf, Ok, ℕ};
+ghost use Rattle.std.specs.Prelude.{◌≡◌, ◌<◌, ◌≤◌, [], List as Listed, Some, IsTrue, true, false, length, take, drop, IfOk, OnOk, OnErr, IfSome, IsErrOf, Ok, ℕ};
 ghost use Rattle.std.specs.List.{list_all};
 ghost use Rattle.esi_links.specs.LinkLog.{LogGrows, IsNext, is_sized, opened_count, are_numbered, next_event, is_fresh};
 ghost use Rattle.esi_links.specs.Counts.{NoneFell, HasLinkCause, HasLinkCauseAt, SameCounts};

@@ -1,5 +1,5 @@
 //! A sink in memory that never fails.
-ghost use Rattle.std.specs.Prelude.{◌≡◌, ◌<◌, ◌≤◌, [], ℕ, length, take, IfOk, OnOk, OnErr, IsErrOf};
+ghost use Rattle.std.specs.Prelude.{◌≡◌, ◌<◌, ◌≤◌, [], length, take, IfOk, OnOk, OnErr, IsErrOf};
 ghost use Rattle.esi_links.specs.Counts.{HasCause};
 ghost use Rattle.esi_links.specs.Growth.{Grows};
 

@@ -1,7 +1,6 @@
 //! What the system answered, as an answer of the traits. Only here it is decided what a failure of
 //! the system is, so each adapter is a line.
-ghost use Rattle.std.specs.Prelude.{◌≡◌, ◌≢◌, ◌<◌, ◌≤◌, length, IfOk, OnOk, OnErr};
-ghost use Rattle.std.specs.Io.{ReadsAtMost};
+ghost use Rattle.std.specs.Prelude.{◌≡◌, ◌<◌, ◌≤◌, length, IfOk, OnOk, OnErr};
 ghost use Rattle.std.specs.Io.KnownBytes.{Appends, ReadConsumes, WriteAppends};
 ghost use Rattle.esi_links.specs.Adapters.{Translates, after_answer};
 ghost use Rattle.esi_links.specs.Counts.{HasCause};

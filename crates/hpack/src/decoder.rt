@@ -1,7 +1,7 @@
 //! The decoder of the header blocks that a peer sends.
 ghost use Rattle.std.specs.Prelude.{◌≡◌, ◌≤◌, ◌⊎◌, None, Ok, List as Listed, IfOk, IfNone, IfSome, IsErrOf};
 ghost use Rattle.hpack.specs.declared.header.Header.{Header};
-ghost use Rattle.hpack.specs.Tables.{Table, new_table, list_size};
+ghost use Rattle.hpack.specs.Tables.{Table, list_size};
 ghost use Rattle.hpack.specs.Blocks.{IsBlock, BreaksBlock};
 ghost use Rattle.hpack.specs.Decoding.{new_decoding, failure};
 ghost use Rattle.esi_base.specs.Answers.{AnswersAs, ReadsAs};

@@ -1,5 +1,5 @@
 //! A header field and a list of them (RFC 7541, section 1.3).
-ghost use Rattle.std.specs.Prelude.{◌≡◌, ◌<◌, ◌^◌, nat_le, IfOk, if◌then◌else◌};
+ghost use Rattle.std.specs.Prelude.{◌≡◌, ◌<◌, ◌^◌, nat_le, IfOk};
 ghost use Rattle.hpack.specs.Tables.{size_of};
 
 use crate::limits::ENTRY_OVERHEAD;

@@ -1,5 +1,5 @@
 -- Words that are those of inputs and of registers, by a walk over all nets.
-use Rattle.std.specs.Prelude.{◌≡◌, ℕ, ◌+◌, ◌<◌, ◌≤◌, if◌then◌else◌, Bool, true, List, length, take, count_by, refl}
+use Rattle.std.specs.Prelude.{◌≡◌, ℕ, ◌+◌, ◌<◌, ◌≤◌, Bool, true, List, length, count_by}
 use Rattle.std.proofs.Common.{sym, ◌∙◌, ap, subst, arith, inl, inr}
 use Rattle.std.proofs.lemmas.Bool.{cases_eq}
 use Rattle.std.proofs.lemmas.List.{take_all}
@@ -9,7 +9,6 @@ use Rattle.netlist.specs.Nets.{Bits, word_at, width_at, is_input}
 use Rattle.netlist.specs.Plans.{Plan, net_at, IsPlan}
 use Rattle.netlist.specs.PlanLaws.{net_at-stands, stands_within}
 use Rattle.netlist.specs.Settled.{input_place, AreInputs, AreHeld}
-use Rattle.netlist.specs.InputPlaces.{input_place_next}
 
 pub inputs_from : (plan : Plan) (inputs : List Bits) (given end : ℕ) → IsPlan plan → end ≡ length plan.nets → given ≡ input_place plan.nets end → given ≡ length inputs
     → ((place : ℕ) → place < end → is_input (net_at plan.nets place) ≡ true → length (word_at inputs (input_place plan.nets place)) ≡ width_at plan.widths place) → AreInputs plan inputs

@@ -1,5 +1,5 @@
 //! A circuit in the simulator, and by the definition's slow way beside it.
-ghost use Rattle.std.specs.Prelude.{◌≡◌, ◌<◌, length};
+ghost use Rattle.std.specs.Prelude.{◌≡◌, ◌<◌};
 
 use crate::checked::{are_held, are_inputs};
 use crate::circuit::Circuit;

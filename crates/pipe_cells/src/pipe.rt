@@ -1,6 +1,6 @@
 //! The simulation of a pipe: values wait, enter the row of cells through a ring, and leave it through
 //! another.
-ghost use Rattle.std.specs.Prelude.{◌≡◌, ◌+◌, ◌-◌, ◌^◌, ◌<◌, ◌≤◌, replicate, length, [], IfOk};
+ghost use Rattle.std.specs.Prelude.{◌≡◌, ◌+◌, ◌-◌, ◌^◌, ◌<◌, replicate, length, [], IfOk};
 ghost use Rattle.cycle_rules.specs.Simulation.{after_cycle, after_cycles, after_action, after_actions, cycles_in, cycles_of_action};
 ghost use Rattle.cycle_rules.specs.Lists.{first};
 ghost use Rattle.cycle_rules.specs.PipeSimulation.{simulation_of, at_start};

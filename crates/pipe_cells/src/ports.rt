@@ -1,5 +1,5 @@
 //! The rings of a pipe, one each way, over a hub.
-ghost use Rattle.std.specs.Prelude.{◌≡◌, ◌+◌, ◌-◌, ◌^◌, ◌<◌, [], ◌∷◌, length, true, false, if◌then◌else◌, IfOk, OnErr, IsErrOf};
+ghost use Rattle.std.specs.Prelude.{◌≡◌, ◌-◌, ◌^◌, ◌<◌, length, true, false, if◌then◌else◌, IfOk, OnErr};
 ghost use Rattle.cycle_rules.specs.Lists.{first};
 ghost use Rattle.cycle_rules.specs.Rings.{has_room};
 ghost use Rattle.pipe_cells.specs.PipeRings.{may_take, with_take, with_pop, with_push, with_hand, with_cycle};

@@ -1,5 +1,5 @@
 //! A row of cells: all transfers of a cycle depend on the cells as they were before it.
-ghost use Rattle.std.specs.Prelude.{◌≡◌, ◌≤◌, length, drop};
+ghost use Rattle.std.specs.Prelude.{◌≡◌, drop};
 ghost use Rattle.pipe_cells.specs.Cells.{next_ready, word_out, row_after};
 
 use crate::cell::Cell;

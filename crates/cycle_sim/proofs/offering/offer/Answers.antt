@@ -1,15 +1,10 @@
-use Rattle.std.proofs.Common.{rules, ◌≡◌, ◌<◌, ◌≤◌, ◌+◌, ◌-◌, ◌++◌, ◌∷◌, [], length, ℕ, Bool, true, false, List, get_or, set, arith, subst, sym, ap, ◌∙◌, Some, None, Option, map, refl, drop, inl, inr}
-use Rattle.std.specs.Prelude.{if◌then◌else◌, not, All, IsTrue}
-use Rattle.netlist.specs.Nets.{Bits, width_at, word_at, result_of, sources, is_computed, is_register, is_input}
-use Rattle.netlist.specs.Settled.{operands, equation, input_place, HaveWidths, IsSettled, AreInputs, AreHeld}
-use Rattle.netlist.specs.Plans.{Plan, net_at, IsPlan, is_register_at, next_of, IsComplete}
-use Rattle.cycle_sim.specs.Changes.{is_marked, is_changed, with_marks, marks_put, is_among, is_evaluated, steps_of}
-use Rattle.cycle_sim.specs.Marks.{IsWithin, IsFirstMark, NoneFrom, found}
-use Rattle.cycle_sim.specs.Wired.{users_at, is_other_at, reads, AreUsers, IsWired, IsInputPlace, AreInputPlaces}
-use Rattle.cycle_sim.specs.Turns.{IsKept, HeldBefore, WaitsFor, HasState, Begun, Turning}
+use Rattle.std.proofs.Common.{◌≡◌, ◌<◌, ◌-◌, length, true, get_or, arith, subst, sym, refl}
+use Rattle.netlist.specs.Nets.{word_at}
+use Rattle.netlist.specs.Plans.{Plan}
+use Rattle.cycle_sim.specs.Wired.{AreInputPlaces}
 use Rattle.cycle_sim.proofs.offering.offer.Goals as goal
 use Rattle.netlist.specs.Reading.{word_read}
-use Rattle.cycle_sim.specs.Offers.{KeepsInputs, IsOffered, offered_more, begun_offered, offer_wide}
+use Rattle.cycle_sim.specs.Offers.{offered_more, begun_offered, offer_wide}
 
 pub put-requires-clause-width : goal.put-requires-clause-width
 put-requires-clause-width c =

@@ -1,8 +1,7 @@
-use Rattle.std.proofs.Common.{rules, ◌≡◌, ◌<◌, ◌≤◌, ◌+◌, ◌-◌, ◌∷◌, [], length, ℕ, Bool, true, false, List, get_or, arith, subst, sym, ap, ◌∙◌, Some, None, Option, map, refl, inl, inr}
-use Rattle.std.specs.Prelude.{if◌then◌else◌, IsTrue}
-use Rattle.netlist.specs.Nets.{Bits, width_at, word_at, is_input, is_register}
-use Rattle.netlist.specs.Settled.{input_place, AreInputs, AreHeld}
-use Rattle.netlist.specs.Plans.{Plan, net_at, IsPlan, is_register_at, IsNextOf, IsComplete}
+use Rattle.std.proofs.Common.{◌≡◌, ◌<◌, ◌≤◌, ◌-◌, length, ℕ, true}
+use Rattle.netlist.specs.Nets.{width_at, word_at, is_input}
+use Rattle.netlist.specs.Settled.{input_place}
+use Rattle.netlist.specs.Plans.{net_at}
 use Rattle.netlist_cases.proofs.checked.are_inputs.Given as goal
 
 abbrev pub invariant-loop-at : goal.invariant-loop-at

@@ -1,4 +1,4 @@
-use Rattle.std.proofs.Common.{◌≡◌, ◌+◌, ◌-◌, ◌++◌, take, drop, arith}
+use Rattle.std.proofs.Common.{◌≡◌, ◌-◌, arith}
 use Rattle.command_runs.proofs.PieceLemmas.{piece_given}
 use Rattle.command_cases.proofs.fours.FoursPrinter.next.Goals as goal
 
