@@ -1,4 +1,3 @@
-pub mod NextToken
 pub mod ExpressionValues
 pub mod ExpressionReading
 pub mod ExpressionTrees

@@ -1,5 +1,5 @@
 //! A text that grows by one token after another.
-ghost use Rattle.std.specs.Prelude.{◌≡◌, ◌++◌, ◌==◌, ◌||◌, not, [], ◌∷◌, false, if◌then◌else◌, OnOk};
+ghost use Rattle.std.specs.Prelude.{◌≡◌, ◌++◌, not, [], ◌∷◌, false, if◌then◌else◌, OnOk};
 ghost use Rattle.design_lex.specs.declared.token.Token.TheVariants.{Word as word_token, TypeWord as type_word_token, Number as number_token, Sign as sign_token};
 ghost use Rattle.design_printer.specs.Canonical.{ends_line, no_space_before};
 ghost use Rattle.design_printer.specs.Printers.{with_token, allows_space_after};

@@ -1,6 +1,6 @@
 //! The printers of statements and of operations.
 ghost use Rattle.std.specs.Prelude.{◌≡◌, map, OnOk};
-ghost use Rattle.design_tree.specs.Tokens.{with_commas, reference_tokens, operation_tokens, binding_tokens, single_name, statement_tokens};
+ghost use Rattle.design_tree.specs.Tokens.{with_commas, operation_tokens, binding_tokens, single_name, statement_tokens};
 ghost use Rattle.design_printer.specs.Printers.{with_tokens};
 
 use crate::expressions::print_expression;
