@@ -1,7 +1,7 @@
 //! Random designs, printed and read again.
 
 use crate::designs::canonical;
-use crate::numbers::Numbers;
+use case_words::Numbers;
 use crate::random_text::{design_text, with_other_gaps};
 use esi_base::NoMemory;
 use std::alloc::Global;

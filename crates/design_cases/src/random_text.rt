@@ -1,6 +1,6 @@
 //! Random canonical texts of types, expressions and designs, and texts of the same tokens with other gaps.
 
-use crate::numbers::Numbers;
+use case_words::Numbers;
 use esi_base::NoMemory;
 use std::alloc::Global;
 

@@ -1,7 +1,7 @@
 //! Random values of random types, unpacked and packed again.
 ghost use Rattle.channel_types.specs.Types.{IsGoodType};
 
-use crate::numbers::Numbers;
+use case_words::Numbers;
 use crate::random_text::type_text;
 use crate::types::type_of;
 use crate::values::octets_of_word;

@@ -1,5 +1,5 @@
 -- The steps of the readers: the items of lists, and which way a test of the next token goes.
-use Rattle.std.proofs.Common.{◌≡◌, ℕ, false, List, [], Ok, refl, sym, ap, ◌∙◌}
+use Rattle.std.proofs.Common.{◌≡◌, ℕ, true, false, List, [], Ok, refl, sym, ap, ◌∙◌}
 use Rattle.ll1_grammar.specs.Lexemes.{Lexemes}
 use Rattle.ll1_grammar.specs.Rule.{Rule, Tree, ◌⟫◌}
 use Rattle.ll1_grammar.specs.Rule.Rule.{alt}

@@ -1,6 +1,7 @@
 //! The readers of bundles.
 ghost use Rattle.design_grammar.specs.Kinds.{names};
 ghost use Rattle.design_grammar.specs.Grammar.{AnswersAt, StandsAt};
+ghost use Rattle.design_expressions.specs.declared.limits.TheConstants.{OPEN_EXPRESSIONS};
 ghost use Rattle.design_types.specs.TypeReading.{type_at};
 ghost use Rattle.channel_types.specs.declared.limits.TheConstants.{OPEN_TYPES};
 ghost use Rattle.design_reader.specs.DesignReading as spec;

@@ -3,6 +3,7 @@ ghost use Rattle.std.specs.Prelude.{[], ◌∷◌};
 ghost use Rattle.design_grammar.specs.declared.kind.Kind.TheVariants.{Port};
 ghost use Rattle.design_grammar.specs.Kinds as kinds;
 ghost use Rattle.design_grammar.specs.Grammar.{AnswersAt, StandsAt};
+ghost use Rattle.design_expressions.specs.declared.limits.TheConstants.{OPEN_EXPRESSIONS};
 ghost use Rattle.design_reader.specs.DesignReading as spec;
 
 use design_expressions::next_name;

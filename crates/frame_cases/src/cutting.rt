@@ -1,6 +1,6 @@
 //! Reading octets at many cuttings.
 
-use crate::numbers::Numbers;
+use case_words::Numbers;
 use crate::text;
 use esi_base::Poll;
 use h2_frames::{FrameReader, FrameStop, Role};

@@ -1,6 +1,6 @@
 //! Random sequences of frames, written and read again.
 
-use crate::numbers::Numbers;
+use case_words::Numbers;
 use crate::written::{add_frame, add_text};
 use crate::{cutting, parts};
 use esi_base::List;

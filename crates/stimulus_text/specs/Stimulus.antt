@@ -1,6 +1,7 @@
 -- What a stimulus text means, line by line.
 use Rattle.std.specs.Prelude.{ℕ, ◌≡◌, ◌+◌, Bool, true, false, nat_lt, nat_le, Option, Some, None, Result, Ok, Err, List, [], ◌∷◌, if◌then◌else◌, length, codes, ◌++◌, refl}
 use Rattle.std.specs.Str.{bytes_eq}
+use Rattle.esi_base.specs.Answers.{◌>>=◌}
 use Rattle.esi_base.specs.declared.place.Refusal.{Refusal}
 use Rattle.small_text.specs.Lines.{Part, Line, place_of, lines, parts_from, numbered_from, counting_lines}
 use Rattle.small_text.specs.Numbers.{number_of}

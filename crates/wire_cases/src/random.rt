@@ -1,6 +1,6 @@
 //! Random cases: what is written is read again.
 
-use crate::numbers::Numbers;
+use case_words::Numbers;
 use crate::{random_blocks, random_messages};
 use esi_base::{NoMemory, Octets};
 use std::alloc::Global;

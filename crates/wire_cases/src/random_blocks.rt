@@ -1,6 +1,6 @@
 //! Random header blocks: each representation, with a model of the table beside them.
 
-use crate::numbers::Numbers;
+use case_words::Numbers;
 use crate::table_model::{TableModel, static_entry};
 use crate::{header_blocks, header_lists, random};
 use esi_base::{List, NoMemory, Octets};

@@ -1,6 +1,6 @@
 //! Random fields, messages, calls and texts, written and read again.
 
-use crate::numbers::Numbers;
+use case_words::Numbers;
 use crate::{calls, fields, huffman, messages, octets, random, written_messages};
 use esi_base::{List, NoMemory, Octets};
 use grpc_calls::Deframer;
