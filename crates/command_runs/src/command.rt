@@ -1,7 +1,7 @@
 //! What a command is.
 ghost use Rattle.std.specs.Prelude.{◌≡◌, ℕ, ◌≤◌, length, List as Listed};
 ghost use Rattle.esi_base.specs.Answers.{AnswersAs};
-ghost use Rattle.esi_links.specs.declared.limits.TheConstants.{LONGEST_FILE};
+ghost use Rattle.esi_base.specs.declared.limits.TheConstants.{LONGEST_TEXT};
 ghost use Rattle.command_runs.specs.Account.{Account, StaysWithin, AllWithin, cut_texts, effects_of};
 
 use crate::{FileText, Printer, WorkStop};
@@ -32,7 +32,7 @@ pub trait Command {
     fn limits(&self) -> &[usize]
         ensures limits { result.now ≡ (account self.now).limits }
         ensures few { length result.now ≤ (account self.now).words }
-        ensures reach { AllWithin LONGEST_FILE result.now };
+        ensures reach { AllWithin LONGEST_TEXT result.now };
 
     /// What the command makes of the texts of its files, each read up to one octet above its limit.
     fn work(&self, alloc: Global, texts: &[Octets]) -> Result<Output<Self::Lines>, WorkStop>

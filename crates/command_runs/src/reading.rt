@@ -1,7 +1,7 @@
 //! The files that a command reads.
 ghost use Rattle.std.specs.Prelude.{◌≡◌, ◌≤◌, ℕ, List as Listed, length, map, string_bytes, IfOk, OnOk, IsErrOf};
 ghost use Rattle.esi_links.specs.Counts.{NoneFell};
-ghost use Rattle.esi_links.specs.declared.limits.TheConstants.{LONGEST_FILE};
+ghost use Rattle.esi_base.specs.declared.limits.TheConstants.{LONGEST_TEXT};
 ghost use Rattle.esi_links.specs.ReadLog.{AddsNotesOf, AreReadThrough, AreReadToFault, AreReadToCut};
 ghost use Rattle.esi_links.specs.Texts.{SameTexts};
 ghost use Rattle.command_runs.specs.Account.{AllWithin};
@@ -22,7 +22,7 @@ pub(crate) fn read_files<F: Files>(
     limits: &[usize],
 ) -> Result<List<Octets>, OutStop>
     requires as_many { length names.now ≡ length limits.now }
-    requires reach { AllWithin LONGEST_FILE limits.now }
+    requires reach { AllWithin LONGEST_TEXT limits.now }
     ensures read { IfOk result (λ texts. AreRead (F.text files.old) limits.now (map string_bytes names.now) texts) }
     ensures readable { OnOk result (AreReadable (F.unreadable files.old) (map string_bytes names.now)) }
     ensures through { OnOk result (AddsNotesOf (F.log files.old) (F.log files.new) (AreReadThrough limits.now (map string_bytes names.now))) }

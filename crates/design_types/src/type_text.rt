@@ -15,7 +15,7 @@ use channel_types::{EsiType, OPEN_TYPES};
 use design_grammar::reading::refuse;
 use design_grammar::{Kind, TokenRefusal, TokenStop};
 use design_lex::Cursor;
-use esi_base::{Place, Refusal, Stop};
+use esi_base::{LONGEST_TEXT, Place, Refusal, Stop};
 use std::alloc::Global;
 
 /// The place of an offset, or of the text's end.
@@ -74,7 +74,7 @@ fn whole(alloc: Global, text: &[u8]) -> Result<(EsiType, usize), TokenStop>
 }
 
 /// Reads one type of a text, from an offset on: the type, and the offset after its last octet. What
-/// stands after it is not looked at. A text has at most 67,108,864 octets.
+/// stands after it is not looked at. A text has at most `LONGEST_TEXT` octets.
 ///
 /// It is refused at the first token with which no type goes on, at its first octet or at the end:
 ///
@@ -91,7 +91,7 @@ fn whole(alloc: Global, text: &[u8]) -> Result<(EsiType, usize), TokenStop>
 /// - 102 at the first octet of a struct with two fields of one name, checked after its width.
 pub fn read_type(alloc: Global, text: &[u8], at: usize) -> Result<(EsiType, usize), Stop>
     requires within { at ≤ length text.now }
-    requires small { length text.now ≤ 67108864 }
+    requires small { length text.now ≤ LONGEST_TEXT }
     // The answer is what the text means there.
     ensures reads { Reads (reading.type_from text.now at) result }
 
@@ -113,9 +113,9 @@ pub fn read_type(alloc: Global, text: &[u8], at: usize) -> Result<(EsiType, usiz
 }
 
 /// Reads a whole text as a type. Refusals are those of `read_type`, and 205 (or 201, 202, 203) at a
-/// token after the type. A text has at most 67,108,864 octets.
+/// token after the type. A text has at most `LONGEST_TEXT` octets.
 pub fn parse_type(alloc: Global, text: &[u8]) -> Result<EsiType, Stop>
-    requires { length text.now ≤ 67108864 }
+    requires { length text.now ≤ LONGEST_TEXT }
     // The answer is what the text means.
     ensures reads { Reads (reading.type_of_text text.now) result }
 

@@ -2,6 +2,7 @@
 //! of octets and words of bits.
 #![tactic(auto)]
 
+pub mod limits;
 pub mod list;
 pub mod octet_queue;
 pub mod place;
@@ -9,6 +10,7 @@ pub mod poll;
 pub mod stop;
 pub mod word;
 
+pub use limits::LONGEST_TEXT;
 pub use list::{List, Octets};
 pub use octet_queue::OctetQueue;
 pub use place::{Place, Refusal};

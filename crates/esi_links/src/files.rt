@@ -3,7 +3,7 @@ ghost use Rattle.std.specs.Prelude.{◌≡◌, ◌≢◌, ℕ, ◌<◌, ◌≤�
 ghost use Rattle.esi_links.specs.Counts.{NoneFell, HasCauseAt, SameCounts};
 ghost use Rattle.esi_links.specs.declared.note.Note.{Note as ReadNote};
 ghost use Rattle.esi_links.specs.ReadLog.{AddsNotes, notes_of};
-ghost use Rattle.esi_links.specs.declared.limits.TheConstants.{LONGEST_FILE};
+ghost use Rattle.esi_base.specs.declared.limits.TheConstants.{LONGEST_TEXT};
 ghost use Rattle.esi_links.specs.Texts.{PieceAt, SameTexts, SameElsewhere};
 
 use crate::OutStop;
@@ -30,12 +30,12 @@ pub trait Files {
     ghost write_faults: { Self → List ℕ → ℕ };
 
     /// Reads octets of the file under a name, from the octet at `at`, which counts from 0 and is at
-    /// most `LONGEST_FILE`. Ok(n): the first n octets of the piece are the n octets from `at`; 0 is the
+    /// most `LONGEST_TEXT`. Ok(n): the first n octets of the piece are the n octets from `at`; 0 is the
     /// end of the file. Where the answer is not Ok, the piece is as before. Only a fault raises a
     /// count. Where it runs out of memory the files stay as they were.
     fn read(&mut self, name: &str, at: u64, into: &mut [u8]) -> Result<usize, OutStop>
         requires piece { 0 < length into.old }
-        requires reach { at ≤ LONGEST_FILE }
+        requires reach { at ≤ LONGEST_TEXT }
         ensures bound { IfOk result (λ n. n ≤ length into.new) }
         ensures octets { IfOk result (λ n. PieceAt (text self.old name.now) at (take n into.new)) }
         ensures readable { OnOk result (unreadable self.old name.now ≡ false) }

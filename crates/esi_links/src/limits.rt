@@ -1,17 +1,11 @@
 //! The limits of what is read from the outside.
 
-/// How long a file may be that is read, in octets: 64 MiB. So the memory that a file from outside
-/// takes is bounded, and each offset in it fits every number that counts octets.
-pub const LONGEST_FILE: usize = 67_108_864;
-
 /// How many octets an event of a connection brings at most, as many as the payload of a frame has at
 /// most: so one event takes no more memory than that, whatever the peer sends.
 pub const LONGEST_BYTES: usize = 16_384;
 
 /// How many octets one call reads at most: they stand on the stack until they are copied.
 pub(crate) const LONGEST_PIECE: usize = 4_096;
-
-const _: () = prove!(LONGEST_FILE == 67108864);
 
 const _: () = prove!(LONGEST_BYTES == 16384);
 

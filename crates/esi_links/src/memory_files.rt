@@ -2,7 +2,7 @@
 ghost use Rattle.std.specs.Prelude.{◌≡◌, ◌≢◌, ◌<◌, ◌≤◌, ℕ, List, Option, None, Some, length, take, is_ok, is_none, false, IfOk, OnOk, OnErr, IfSome, IsSome, IsErrOf, ◌↔◌, true};
 ghost use Rattle.std.specs.Option.{option_copied};
 ghost use Rattle.esi_links.specs.Counts.{NoneFell, HasCauseAt, SameCounts};
-ghost use Rattle.esi_links.specs.declared.limits.TheConstants.{LONGEST_FILE};
+ghost use Rattle.esi_base.specs.declared.limits.TheConstants.{LONGEST_TEXT};
 ghost use Rattle.esi_links.specs.Texts.{PieceAt, SameTexts, SameElsewhere};
 
 use crate::holding::{Held, copy_piece, hold_text};
@@ -81,7 +81,7 @@ impl Files for MemoryFiles {
     /// memory.
     fn read(&mut self, name: &str, at: u64, into: &mut [u8]) -> Result<usize, OutStop>
         requires piece { 0 < length into.old }
-        requires reach { at ≤ LONGEST_FILE }
+        requires reach { at ≤ LONGEST_TEXT }
         ensures bound { IfOk result (λ n. n ≤ length into.new) }
         ensures octets { IfOk result (λ n. PieceAt (memory_text self.old name.now) at (take n into.new)) }
         ensures texts { SameTexts (memory_text self.old) (memory_text self.new) }

@@ -2,7 +2,7 @@
 ghost use Rattle.std.specs.Prelude.{◌≡◌, ℕ, List, false, ◌≤◌, ◌<◌, ◌+◌, length, take, IfOk, OnOk, OnErr, IsErrOf};
 ghost use Rattle.esi_links.specs.Counts.{NoneFell, SameCounts, HasCause, HasCauseAt};
 ghost use Rattle.esi_links.specs.Growth.{Grows, GrowsByPrefix};
-ghost use Rattle.esi_links.specs.declared.limits.TheConstants.{LONGEST_FILE};
+ghost use Rattle.esi_base.specs.declared.limits.TheConstants.{LONGEST_TEXT};
 ghost use Rattle.esi_links.specs.ReadLog.{AddsNotesOf, IsPieceRead, ReadThrough, ReadFailed, ReadCut};
 ghost use Rattle.esi_links.specs.Texts.{PrefixOf, ReadUpTo, SameTexts, ReadsOn};
 
@@ -12,7 +12,7 @@ use esi_base::Octets;
 use std::alloc::Global;
 
 /// Reads the text under a name whole, or its first `limit` + 1 octets where it is longer: so the
-/// caller sees whether a text is above the limit, which is at most `LONGEST_FILE`. The file is read once
+/// caller sees whether a text is above the limit, which is at most `LONGEST_TEXT`. The file is read once
 /// through, from its first octet on. A fault comes only where the count of reads under this name
 /// rose, and any other answer leaves all counts.
 pub fn read_whole<F: Files>(
@@ -21,7 +21,7 @@ pub fn read_whole<F: Files>(
     name: &str,
     limit: usize,
 ) -> Result<Octets, OutStop>
-    requires { limit ≤ LONGEST_FILE }
+    requires { limit ≤ LONGEST_TEXT }
     ensures text { IfOk result (λ octets. ReadUpTo limit (F.text files.old name.now) octets) }
     ensures readable { OnOk result (F.unreadable files.old name.now ≡ false) }
     ensures texts { SameTexts (F.text files.old) (F.text files.new) }
@@ -59,7 +59,7 @@ fn read_piece<F: Files>(
     octets: &mut Octets,
 ) -> Result<usize, OutStop>
     requires some { 0 < length piece.old }
-    requires limit { limit ≤ LONGEST_FILE }
+    requires limit { limit ≤ LONGEST_TEXT }
     requires reach { length octets.old ≤ limit }
     requires prefix { PrefixOf (F.text files.old name.now) octets.old }
     ensures read { IfOk result (λ count. ReadsOn count (F.text files.old name.now) octets.old octets.new) }

@@ -10,14 +10,10 @@ mod types;
 mod work;
 
 use crate::work::Work;
+use esi_base::LONGEST_TEXT;
 use esi_links::{DiskFiles, read_whole};
 use std::process::ExitCode;
 use std::{env, io};
-
-/// The longest file, in octets: above what the longest measurement takes.
-const LONGEST_FILE: usize = 67_108_864;
-
-const _: () = prove!(LONGEST_FILE == 67108864);
 
 /// `measurements WORK ROUNDS FILE` does the work so often on the octets that the file holds, and prints
 /// what a round made: octets, or what the work counts. Other words, a file that cannot be read, octets
@@ -49,10 +45,10 @@ fn made_by_words(rt: &HostRuntime, words: &[String]) -> io::Result<Option<usize>
         return Ok(None);
     };
     let mut files = DiskFiles::new(rt.clone()?);
-    let Ok(file) = read_whole(alloc, &mut files, name.as_str(), LONGEST_FILE) else {
+    let Ok(file) = read_whole(alloc, &mut files, name.as_str(), LONGEST_TEXT) else {
         return Ok(None);
     };
-    if file.len() > LONGEST_FILE {
+    if file.len() > LONGEST_TEXT {
         return Ok(None);
     }
     Ok(work.do_rounds(alloc, rounds, file.as_slice()))

@@ -1,7 +1,7 @@
 //! Streams of length-prefixed messages.
 ghost use Rattle.std.specs.Prelude.{◌<◌, ◌≤◌, length};
 
-use esi_base::{Octets, Poll};
+use esi_base::{LONGEST_TEXT, Octets, Poll};
 use grpc_calls::{Deframer, prefixed};
 use std::alloc::Global;
 
@@ -47,7 +47,7 @@ fn take_messages(deframer: &mut Deframer) -> Option<usize> {
 
 /// Writes a message with its prefix so often, and gives the octets written.
 pub fn write(alloc: Global, rounds: u32, message: &[u8]) -> Option<usize>
-    requires { length message.now ≤ 67108864 }
+    requires { length message.now ≤ LONGEST_TEXT }
 {
     let mut out = Octets::new(alloc);
     for _ in 0..rounds {

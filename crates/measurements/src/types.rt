@@ -2,12 +2,13 @@
 ghost use Rattle.std.specs.Prelude.{◌≤◌, length};
 ghost use Rattle.channel_types.specs.Types.{IsGoodType};
 
+use esi_base::LONGEST_TEXT;
 use esi_types::{EsiType, parse_type};
 use std::alloc::Global;
 
 /// Reads a type so often, and gives its width in bits.
 pub fn read(alloc: Global, rounds: u32, text: &[u8]) -> Option<usize>
-    requires { length text.now ≤ 67108864 }
+    requires { length text.now ≤ LONGEST_TEXT }
 {
     let mut width = parse_type(alloc, text).ok()?.width();
     for _ in 0..rounds {
@@ -18,7 +19,7 @@ pub fn read(alloc: Global, rounds: u32, text: &[u8]) -> Option<usize>
 
 /// Reads a type, prints it so often, and gives the octets printed.
 pub fn print(alloc: Global, rounds: u32, text: &[u8]) -> Option<usize>
-    requires { length text.now ≤ 67108864 }
+    requires { length text.now ≤ LONGEST_TEXT }
 {
     let ty = parse_type(alloc, text).ok()?;
     print_again(alloc, rounds, &ty)
@@ -38,7 +39,7 @@ fn print_again(alloc: Global, rounds: u32, ty: &EsiType) -> Option<usize>
 /// Reads a type, copies it so often and compares it with the copy, and gives its width in bits; None
 /// where a copy is not the same.
 pub fn copy(alloc: Global, rounds: u32, text: &[u8]) -> Option<usize>
-    requires { length text.now ≤ 67108864 }
+    requires { length text.now ≤ LONGEST_TEXT }
 {
     let ty = parse_type(alloc, text).ok()?;
     copy_again(alloc, rounds, &ty)

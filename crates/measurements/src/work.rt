@@ -2,6 +2,7 @@
 ghost use Rattle.std.specs.Prelude.{◌≤◌, length};
 
 use crate::{frames, headers, huffman, messages, streams, types};
+use esi_base::LONGEST_TEXT;
 use std::alloc::Global;
 
 /// The octets of a piece where an input comes in small pieces.
@@ -71,7 +72,7 @@ impl Work {
     /// Does the work so often, and gives what a round made; None where the octets are not what the work
     /// is for, or memory ran out.
     pub fn do_rounds(self, alloc: Global, rounds: u32, octets: &[u8]) -> Option<usize>
-        requires { length octets.now ≤ 67108864 }
+        requires { length octets.now ≤ LONGEST_TEXT }
     {
         match self {
             Work::ReadType => types::read(alloc, rounds, octets),

@@ -8,4 +8,4 @@ pub mod text;
 
 pub use hexadecimal::{push_hex, read_octets};
 pub use numbers::read_number;
-pub use text::{LONGEST_TEXT, Line, Lines, Part};
+pub use text::{Line, Lines, Part};

@@ -3,14 +3,8 @@ ghost use Rattle.std.specs.Prelude.{◌≡◌, ◌+◌, ◌<◌, ◌≤◌, ◌=
 ghost use Rattle.std.specs.List.{prefix_len};
 ghost use Rattle.small_text.specs.Lines.{lines, line_of as counting_line, counting_lines, place_of};
 
-use esi_base::Place;
+use esi_base::{LONGEST_TEXT, Place};
 use std::marker::Model;
-
-/// The longest text of which lines are taken, in octets. It keeps lines and columns within 32 bits, so
-/// that no count of them wraps, however the text is made.
-pub const LONGEST_TEXT: usize = 67_108_864;
-
-const _: () = prove!(LONGEST_TEXT == 67108864);
 
 /// A part of a line: a longest run of octets other than space.
 #[derive(Drop)]
