@@ -96,9 +96,10 @@ module _ (words : List Bits) where
   parts_width (p ∷ q ∷ ps) width e =
       let s = concat_size _ _ width e in
       let own = p.1 words s.0 s.2 in
-      let rest = parts_width (q ∷ ps) s.1 s.3 in
-      (length-append (first_highest (map (worth words) (map (λ (e : Wide). e.0) (q ∷ ps)))) (worth words p.0) ∙ omega (arith, own, rest.0, s.5),
-          length-append (worth words p.0) (first_lowest (map (worth words) (map (λ (e : Wide). e.0) (q ∷ ps)))) ∙ omega (arith, own, rest.1, s.5))
+      let rest = parts_width (q ∷ ps) s.1 s.3 in (
+        length-append (first_highest (map (worth words) (map (λ (e : Wide). e.0) (q ∷ ps)))) (worth words p.0) ∙ omega (arith, own, rest.0, s.5),
+        length-append (worth words p.0) (first_lowest (map (worth words) (map (λ (e : Wide). e.0) (q ∷ ps)))) ∙ omega (arith, own, rest.1, s.5),
+      )
 
   level_width : (y : Formula-F Wide) (width : ℕ)
       → size_step (map length words) (folds.map-Formula Formula (Option ℕ) (size (map length words)) (bare y)) ≡ Some width

@@ -12,10 +12,12 @@ pub const MAX_NUMBER_WIDTH: u32 = 64;
 
 /// How many words a FIFO holds at least, and at most.
 pub const MIN_DEPTH: u32 = 2;
+
 pub const MAX_DEPTH: u32 = 64;
 
 /// How many branches a fork has at least, and at most.
 pub const MIN_BRANCHES: u32 = 2;
+
 pub const MAX_BRANCHES: u32 = 8;
 
 const _: () = prove!(MAX_NETS == 16_384);
