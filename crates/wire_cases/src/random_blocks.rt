@@ -1,8 +1,8 @@
 //! Random header blocks: each representation, with a model of the table beside them.
 
-use case_words::Numbers;
 use crate::table_model::{TableModel, static_entry};
 use crate::{header_blocks, header_lists, random};
+use case_words::Numbers;
 use esi_base::{List, NoMemory, Octets};
 use hpack::{Decoder, Encoder, Header, Headers};
 use hpack_huffman::huff_encode;

@@ -1,7 +1,7 @@
 //! Random fields, messages, calls and texts, written and read again.
 
-use case_words::Numbers;
 use crate::{calls, fields, huffman, messages, octets, random, written_messages};
+use case_words::Numbers;
 use esi_base::{List, NoMemory, Octets};
 use grpc_calls::Deframer;
 use hpack_huffman::{huff_decode, huff_encode};
