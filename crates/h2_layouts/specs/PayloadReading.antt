@@ -12,6 +12,7 @@ use Rattle.h2_layouts.specs.declared.rule.FrameRule.{FrameRule}
 use Rattle.h2_layouts.specs.declared.rule.FrameRule.TheVariants as rules
 use Rattle.h2_layouts.specs.declared.setting.Setting.{Setting}
 use Rattle.h2_layouts.specs.Numbers.{u32_of, u31_of, has}
+use Rattle.esi_base.specs.Answers.{◌>>=◌}
 use Rattle.h2_layouts.specs.Rules.{settings_of, pushes, is_window_too_large, is_frame_size_out_of_range}
 
 -- the stream of a frame that is on a stream

@@ -1,6 +1,7 @@
 -- Reading a header block to its end.
 use Rattle.std.specs.Prelude.{ℕ, zero, suc, List, [], ◌∷◌, length, Result, Ok}
 use Rattle.hpack.specs.declared.stop.BlockRule.{BlockRule}
+use Rattle.esi_base.specs.Answers.{◌>>=◌}
 use Rattle.hpack.specs.Representations.{Listing}
 use Rattle.hpack.specs.RepresentationReading.{representation_at}
 use Rattle.hpack.specs.Tables.{Table}

@@ -3,6 +3,7 @@ use Rattle.std.specs.Prelude.{ℕ, ◌+◌, ◌-◌, ◌==◌, nat_le, Bool, tru
 use Rattle.hpack.specs.declared.limits.TheConstants.{MAX_HEADER_LIST_SIZE, MAX_TABLE_SIZE, INDEXED_BITS, WITH_INDEXING_BITS, WITHOUT_INDEXING_BITS, SIZE_UPDATE_BITS}
 use Rattle.hpack.specs.declared.stop.BlockRule.{BlockRule}
 use Rattle.hpack.specs.declared.stop.BlockRule.TheVariants.{NoSuchEntry, CutOrTooLarge, WrongSizeUpdate, ListTooLarge}
+use Rattle.esi_base.specs.Answers.{◌>>=◌}
 use Rattle.hpack.specs.declared.header.Header.{Header}
 use Rattle.hpack.specs.declared.representation.Representation.{Representation}
 use Rattle.hpack.specs.declared.representation.Representation.TheVariants.{Indexed, WithIndexing, WithoutIndexing, NeverIndexed, SizeUpdate}

@@ -4,6 +4,7 @@ use Rattle.hpack.specs.declared.limits.TheConstants.{STRING_BITS}
 use Rattle.hpack.specs.declared.stop.BlockRule.{BlockRule}
 use Rattle.hpack.specs.declared.stop.BlockRule.TheVariants.{CutOrTooLarge}
 use Rattle.hpack_huffman.specs.Decoding.{decoded}
+use Rattle.esi_base.specs.Answers.{◌>>=◌}
 use Rattle.hpack.specs.declared.string.StringHead.{StringHead}
 use Rattle.hpack.specs.IntegerReading.{integer_at}
 use Rattle.hpack.specs.Rules.{text_in_block}

@@ -2,6 +2,7 @@
 -- the rule that is broken.
 use Rattle.std.specs.Prelude.{ℕ, ◌+◌, ◌-◌, ◌/◌, ◌%◌, ◌^◌, ◌==◌, ◌&&◌, if◌then◌else◌, nat_lt, nat_le, Option, Some, None, List, [], ◌∷◌, ◌++◌, ◌≡◌, length, replicate, take, drop, Result, Ok, Err, refl}
 use Rattle.std.specs.List.{prefix_len}
+use Rattle.esi_base.specs.Answers.{◌>>=◌}
 use Rattle.esi_base.specs.Parts.{whole}
 use Rattle.proto_wire.specs.declared.field.WireField.{WireField}
 use Rattle.proto_wire.specs.declared.field.WireValue.{WireValue}
