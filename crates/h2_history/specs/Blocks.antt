@@ -1,5 +1,5 @@
 -- Header blocks: how their frames are gathered, and what their lists come to.
-use Rattle.std.specs.Prelude.{ℕ, ◌+◌, ◌||◌, nat_lt, Bool, true, false, Option, Some, None, List, [], ◌++◌, length, Result, Ok, Err, if◌then◌else◌}
+use Rattle.std.specs.Prelude.{ℕ, ◌+◌, nat_lt, nat_le, Bool, true, false, Option, Some, None, List, [], ◌++◌, length, Result, Ok, Err, if◌then◌else◌}
 use Rattle.esi_base.specs.declared.stop.Stop.{Stop}
 use Rattle.esi_base.specs.declared.stop.Stop.TheVariants.{Refused, NoMemory}
 use Rattle.header_lists.specs.declared.kind.ListKind.TheVariants.{Request, Reply, Trailers}
@@ -35,8 +35,12 @@ block_begun verdict stream end octets = record { stream = stream; end = end; wan
 abbrev pub block_grown : List ℕ → HeaderBlock → HeaderBlock
 block_grown octets block = record block { octets = block.octets ++ octets; continued = block.continued + 1 }
 
-abbrev pub is_too_much : HeaderBlock → Bool
-is_too_much block = nat_lt LONGEST_BLOCK (length block.octets) || nat_lt MOST_CONTINUATIONS block.continued
+abbrev pub is_too_long : HeaderBlock → Bool
+is_too_long block = nat_lt LONGEST_BLOCK (length block.octets)
+
+-- it has had all the CONTINUATION frames that one may have
+abbrev pub has_all_frames : HeaderBlock → Bool
+has_all_frames block = nat_le MOST_CONTINUATIONS block.continued
 
 -- ---- what the list of a block comes to
 
@@ -103,7 +107,15 @@ completed block s = completed_by (decoded_at s.tables block.octets) block s
 
 -- ---- one frame of a block
 
+-- the peer takes more than one block may have
+abbrev pub too_much : Standing → Completed
+too_much s = record { verdict = ConnectionError ENHANCE_YOUR_CALM; headers = []; left = s }
+
 -- the limits are checked at each frame, the list when the block is whole
 abbrev pub fragment_read : Bool → HeaderBlock → Standing → Completed
-fragment_read last block s = if is_too_much block then record { verdict = ConnectionError ENHANCE_YOUR_CALM; headers = []; left = s }
+fragment_read last block s = if is_too_long block then too_much s
     else (if last then completed block s else record { verdict = Ignored; headers = []; left = record s { block = Some block } })
+
+-- CONTINUATION
+abbrev pub continuation_read : Bool → List ℕ → HeaderBlock → Standing → Completed
+continuation_read last octets block s = if has_all_frames block then too_much s else fragment_read last (block_grown octets block) s

@@ -7,7 +7,7 @@ use Rattle.h2_history.specs.declared.event.CallEvent.TheVariants as events
 use Rattle.h2_history.specs.declared.header_block.HeaderBlock.{HeaderBlock}
 use Rattle.h2_history.specs.declared.verdict.Verdict.{Verdict}
 use Rattle.h2_history.specs.declared.verdict.Verdict.TheVariants.{ConnectionError, StreamError, Ignored, Accepted}
-use Rattle.h2_history.specs.Blocks.{Completed, block_begun, block_grown, fragment_read}
+use Rattle.h2_history.specs.Blocks.{Completed, block_begun, fragment_read, continuation_read}
 use Rattle.h2_history.specs.Puts.{Put, shut, opened, ended_by_peer, goaway, offer_all}
 use Rattle.h2_history.specs.Puts.Put.{Plain}
 use Rattle.h2_history.specs.Settings.{Settled, settled}
@@ -68,18 +68,24 @@ headers_told (ConnectionError code) stream end last octets s = None
 headers_told (StreamError on code) stream end last octets s = Some (events.Reset on code)
 headers_told verdict stream end last octets s = list_told stream end (headers_read verdict stream end last octets s)
 
--- the block of which it is a part
+-- CONTINUATION of the block that is not whole
+abbrev pub continued_read : Bool → List ℕ → HeaderBlock → Standing → Completed
+continued_read last octets block s = continuation_read last octets block (record s { block = None })
+
 abbrev pub continued_seen : Option HeaderBlock → Bool → List ℕ → Standing → Standing
 continued_seen None last octets s = s
-continued_seen (Some block) last octets s = (fragment_read last (block_grown octets block) (record s { block = None })).left
+continued_seen (Some block) last octets s = (continued_read last octets block s).left
 
 abbrev pub continued_owed : Option HeaderBlock → Bool → List ℕ → Standing → List Put
 continued_owed None last octets s = []
-continued_owed (Some block) last octets s = let read = fragment_read last (block_grown octets block) (record s { block = None }) in owed read.verdict 0 read.left
+continued_owed (Some block) last octets s = let read = continued_read last octets block s in owed read.verdict 0 read.left
 
 abbrev pub continued_told : Option HeaderBlock → Bool → List ℕ → Standing → Option CallEvent
 continued_told None last octets s = None
-continued_told (Some block) last octets s = list_told block.stream block.end (fragment_read last (block_grown octets block) (record s { block = None }))
+continued_told (Some block) last octets s = list_told block.stream block.end (continued_read last octets block s)
+
+abbrev pub continued_outcome : Bool → List ℕ → Standing → Outcome
+continued_outcome last octets s = record { left = offer_all (continued_owed s.block last octets s) (continued_seen s.block last octets s); event = continued_told s.block last octets s }
 
 -- ---- RST_STREAM, WINDOW_UPDATE, SETTINGS, GOAWAY
 

@@ -1,9 +1,13 @@
 //! HTTP/2 connections, polled by hand, for both ends (RFC 9113).
 #![tactic(auto)]
 
+mod blocks;
 mod conn;
+mod frames;
 mod puts;
+mod settings;
 mod states;
+mod verdicts;
 
 pub use conn::Conn;
 pub use h2_history::CallEvent;

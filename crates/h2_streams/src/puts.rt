@@ -43,31 +43,32 @@ impl Conn {
     pub(crate) fn offer_reset(&mut self, stream: u32, code: u32)
         ensures { self.new ≡ offered (Plain (reset_frame stream code)) self.old }
     {
-        let payload = code.to_be_bytes();
         if self.broken.is_some() {
             return;
         }
-        if !self.fits(payload.len()) {
+        if !self.fits(4) {
             return self.break_with(ENHANCE_YOUR_CALM);
         }
+        let [a, b, c, d] = code.to_be_bytes();
         self.output
-            .push_frame(FrameType::RstStream, 0, stream, &payload);
-        self.shut(stream);
+            .push_frame(FrameType::RstStream, 0, stream, &[a, b, c, d]);
+        self.streams.close(stream);
+        self.ledger.close_stream(stream);
     }
 
     /// Gives octets of DATA back to the peer: on a stream, or on the connection at 0.
     pub(crate) fn offer_update(&mut self, stream: u32, increment: u32)
         ensures { self.new ≡ offered (Plain (update_frame stream increment)) self.old }
     {
-        let payload = increment.to_be_bytes();
         if self.broken.is_some() {
             return;
         }
-        if !self.fits(payload.len()) {
+        if !self.fits(4) {
             return self.break_with(ENHANCE_YOUR_CALM);
         }
+        let [a, b, c, d] = increment.to_be_bytes();
         self.output
-            .push_frame(FrameType::WindowUpdate, 0, stream, &payload);
+            .push_frame(FrameType::WindowUpdate, 0, stream, &[a, b, c, d]);
         if stream == 0 {
             let _increment = self.ledger.resolve(increment);
         }
