@@ -5,3 +5,4 @@ pub mod Blocks
 pub mod Settings
 pub mod Frames
 pub mod History
+pub mod Sending

@@ -5,9 +5,11 @@ mod blocks;
 mod conn;
 mod frames;
 mod puts;
+mod sending;
 mod settings;
 mod states;
 mod verdicts;
 
 pub use conn::Conn;
 pub use h2_history::CallEvent;
+pub use sending::OpenStop;
