@@ -2,7 +2,9 @@ pub mod Standing
 pub mod Puts
 pub mod Verdicts
 pub mod Blocks
+pub mod BlockSizes
 pub mod Settings
 pub mod Frames
 pub mod History
 pub mod Sending
+pub mod Unmoved

@@ -1,3 +1,4 @@
+pub mod Blocked
 pub mod Decoding
 pub mod Sending
 pub mod Told

@@ -1,5 +1,6 @@
 //! What is put by the calls above: HEADERS, DATA, RST_STREAM, octets of DATA given back.
-ghost use Rattle.std.specs.Prelude.{◌≡◌, ◌+◌, ◌≤◌, ◌<◌, true, false, [], length, None, OnOk, OnErr};
+ghost use Rattle.std.specs.Prelude.{◌≡◌, ◌+◌, ◌≤◌, ◌<◌, true, false, [], length, None, IfOk, OnOk, OnErr};
+ghost use Rattle.hpack.specs.Encoding.{encoded_block, writing_after};
 ghost use Rattle.hpack.specs.Tables.{list_size};
 ghost use Rattle.hpack.specs.declared.limits.TheConstants.{MAX_HEADER_LIST_SIZE};
 ghost use Rattle.h2_history.specs.Puts.{out, offered, offer_all};
@@ -11,6 +12,7 @@ ghost use Rattle.h2_layouts.specs.declared.frame.Frame.TheVariants.{Content as c
 ghost use Rattle.h2_layouts.specs.declared.flag.TheConstants.{END_STREAM, END_HEADERS};
 ghost use Rattle.h2_layouts.specs.declared.limit.TheConstants.{LONGEST_PAYLOAD};
 ghost use Rattle.h2_layouts.specs.Written.{flag_if};
+ghost use Rattle.h2_streams.specs.Blocked.{with_block};
 ghost use Rattle.h2_streams.specs.Sending.{Sends, Opens};
 
 use crate::conn::Conn;
@@ -119,7 +121,42 @@ impl Conn {
         self.offer_update(0, octets);
     }
 
+    /// The block of a header list.
+    #[tactic(auto, using(h2_history::specs::BlockSizes::block_len))]
+    fn encode(&mut self, headers: &Headers) -> Result<Octets, NoMemory>
+        requires going { self.old.broken ≡ None }
+        requires small { list_size headers.now ≤ MAX_HEADER_LIST_SIZE }
+        ensures block { IfOk result (λ block. block ≡ encoded_block self.old.writing headers.now) }
+        ensures small { IfOk result (λ block. length block ≤ LONGEST_PAYLOAD) }
+        ensures after { OnOk result (self.new ≡ record self.old { writing = writing_after self.old.writing headers.now }) }
+        ensures unchanged { OnErr result (self.new ≡ self.old) }
+    {
+        let mut block = Octets::new(self.alloc);
+        self.encoder.block(headers, &mut block)?;
+        Ok(block)
+    }
+
     /// Puts HEADERS with a whole block.
+    fn put_block(&mut self, stream: u32, end: bool, block: &[u8])
+        requires going { self.old.broken ≡ None }
+        requires small { length block.now ≤ LONGEST_PAYLOAD }
+        ensures { self.new ≡ with_block stream end block.now self.old }
+    {
+        if !self.fits(block.len()) {
+            return self.break_with(ENHANCE_YOUR_CALM);
+        }
+        self.output
+            .push_frame(FrameType::Headers, headers_flags(end), stream, block);
+        if self.greatest < stream {
+            self.open(stream);
+        }
+        if end {
+            self.end_here(stream);
+        }
+    }
+
+    /// Puts HEADERS with a header list.
+    #[tactic(auto, using(crate::specs::Blocked::offered_block))]
     fn put_headers(&mut self, stream: u32, headers: &Headers, end: bool) -> Result<(), NoMemory>
         requires { list_size headers.now ≤ MAX_HEADER_LIST_SIZE }
         ensures put { OnOk result (self.new ≡ offered (PutHeaders stream end headers.now) self.old) }
@@ -128,24 +165,8 @@ impl Conn {
         if self.broken.is_some() {
             return Ok(());
         }
-        let mut block = Octets::new(self.alloc);
-        self.encoder.block(headers, &mut block)?;
-        if !self.fits(block.len()) {
-            self.break_with(ENHANCE_YOUR_CALM);
-            return Ok(());
-        }
-        self.output.push_frame(
-            FrameType::Headers,
-            headers_flags(end),
-            stream,
-            block.as_slice(),
-        );
-        if self.greatest < stream {
-            self.open(stream);
-        }
-        if end {
-            self.end_here(stream);
-        }
+        let block = self.encode(headers)?;
+        self.put_block(stream, end, block.as_slice());
         Ok(())
     }
 
