@@ -7,4 +7,5 @@ pub mod Settings
 pub mod Frames
 pub mod History
 pub mod Sending
+pub mod Turns
 pub mod Unmoved
