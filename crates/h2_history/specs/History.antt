@@ -8,7 +8,7 @@ use Rattle.h2_history.specs.declared.event.CallEvent.{CallEvent}
 use Rattle.h2_history.specs.declared.event.CallEvent.TheVariants.{Broken}
 use Rattle.h2_history.specs.declared.verdict.Verdict.TheVariants.{ConnectionError}
 use Rattle.h2_history.specs.Frames.{Outcome, frame_seen, frame_owed, frame_read, answered}
-use Rattle.h2_history.specs.Puts.{Put, out, goaway, broke, fits}
+use Rattle.h2_history.specs.Puts.{Put, out, goaway, broke, placed_all}
 use Rattle.h2_history.specs.Puts.Put.{Plain}
 use Rattle.h2_history.specs.Standing.{Standing, first_standing}
 use Rattle.h2_layouts.specs.declared.frame.Frame.{Frame}
@@ -94,6 +94,19 @@ turn_by None s = turn_next (next_of s.reading) s
 
 abbrev pub turn_of : Standing → Turn
 turn_of s = turn_by s.broken s
+
+-- what was read and put in that turn
+abbrev pub entries_next : Next → Standing → List Entry
+entries_next NextUnfinished s = []
+entries_next (NextFault code) s = Out (goaway code s) ∷ []
+entries_next (NextFrame frame reading) s = let t : Standing = record s { reading = reading } in In frame ∷ outs (placed_all (frame_owed frame t) (frame_seen frame t))
+
+abbrev pub entries_by : Option ℕ → Standing → List Entry
+entries_by (Some code) s = []
+entries_by None s = entries_next (next_of s.reading) s
+
+abbrev pub turn_entries : Standing → List Entry
+turn_entries s = entries_by s.broken s
 
 -- ---- what one call of reading does
 

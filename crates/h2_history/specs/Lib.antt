@@ -7,5 +7,7 @@ pub mod Settings
 pub mod Frames
 pub mod History
 pub mod Sending
+pub mod Runs
+pub mod RunLaws
 pub mod Turns
 pub mod Unmoved

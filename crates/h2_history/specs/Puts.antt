@@ -119,3 +119,15 @@ offered put s = offered_by s.broken put s
 abbrev pub offer_all : List Put → Standing → Standing
 offer_all [] s = s
 offer_all (put ∷ puts) s = offer_all puts (offered put s)
+
+-- what of them is put: nothing once the connection has ended, and the last GOAWAY where one does not fit
+abbrev pub placed_by : Option ℕ → Put → Standing → List Put
+placed_by (Some code) put s = []
+placed_by None put s = if fits put s then put ∷ [] else goaway ENHANCE_YOUR_CALM s ∷ []
+
+abbrev pub placed : Put → Standing → List Put
+placed put s = placed_by s.broken put s
+
+abbrev pub placed_all : List Put → Standing → List Put
+placed_all [] s = []
+placed_all (put ∷ puts) s = placed put s ++ placed_all puts (offered put s)
