@@ -1,12 +1,12 @@
 //! What is put by the calls above: HEADERS, DATA, RST_STREAM, octets of DATA given back.
-ghost use Rattle.std.specs.Prelude.{◌≡◌, ◌+◌, ◌≤◌, ◌<◌, true, false, [], length, None, IfOk, OnOk, OnErr};
+ghost use Rattle.std.specs.Prelude.{◌≡◌, ◌+◌, ◌≤◌, ◌<◌, true, false, [], length, None, IsTrue, IfOk, OnOk, OnErr};
 ghost use Rattle.hpack.specs.Encoding.{encoded_block, writing_after};
 ghost use Rattle.hpack.specs.Tables.{list_size};
 ghost use Rattle.hpack.specs.declared.limits.TheConstants.{MAX_HEADER_LIST_SIZE};
 ghost use Rattle.h2_history.specs.Puts.{out, offered, offer_all};
 ghost use Rattle.h2_history.specs.Puts.Put.{Plain, Headers as PutHeaders};
-ghost use Rattle.h2_history.specs.Sending.{CanSend, CanReset, CanOpen, given_back};
-ghost use Rattle.h2_history.specs.Standing.{may_put, room, stream_limit};
+ghost use Rattle.h2_history.specs.Sending.{can_send, can_open, given_back};
+ghost use Rattle.h2_history.specs.Standing.{may_put, room, stream_limit, was_opened};
 ghost use Rattle.h2_history.specs.declared.limits.TheConstants.{SERVER_WINDOW};
 ghost use Rattle.h2_layouts.specs.declared.frame.Frame.TheVariants.{Content as content, Reset as reset_frame};
 ghost use Rattle.h2_layouts.specs.declared.flag.TheConstants.{END_STREAM, END_HEADERS};
@@ -17,7 +17,7 @@ ghost use Rattle.h2_streams.specs.Sending.{Sends, Opens};
 
 use crate::conn::Conn;
 use esi_base::{NoMemory, Octets, Poll};
-use h2_flow::OPEN_STREAMS;
+use h2_flow::{GREATEST_WINDOW, OPEN_STREAMS};
 use h2_frames::Role;
 use h2_history::limits::ROOM_FOR_DATA;
 use h2_layouts::FrameType;
@@ -52,11 +52,21 @@ impl Conn {
         (self.ledger.may_send(stream) as usize).min(self.room())
     }
 
+    /// Whether the stream is open, and this end has not ended it.
+    pub fn can_send(&self, stream: u32) -> bool
+        ensures { result ≡ can_send stream self.now }
+    {
+        match self.streams.get(stream) {
+            None => false,
+            Some(row) => !row.here_ended,
+        }
+    }
+
     /// Puts as many of the octets as may be put, as one DATA frame, and tells how many. Pending comes
     /// exactly where the stream's window, the connection's or the room is at most 0. It takes no memory.
     pub fn poll_send(&mut self, stream: u32, octets: &[u8]) -> Poll<usize>
         requires going { self.old.broken ≡ None }
-        requires open { CanSend stream self.old }
+        requires open { IsTrue (can_send stream self.old) }
         requires some { 0 < length octets.now }
         ensures { Sends stream octets.now self.old result self.new }
     {
@@ -83,7 +93,7 @@ impl Conn {
 
     /// Ends a stream on this side, with an empty DATA frame. It takes no memory.
     pub fn finish(&mut self, stream: u32)
-        requires open { CanSend stream self.old }
+        requires open { IsTrue (can_send stream self.old) }
         ensures { self.new ≡ offered (Plain (content stream true [] 0)) self.old }
     {
         if self.broken.is_some() {
@@ -101,7 +111,7 @@ impl Conn {
     /// Resets a stream, also one that both ends have ended. It takes no memory.
     pub fn reset(&mut self, stream: u32, code: u32)
         requires going { self.old.broken ≡ None }
-        requires opened { CanReset stream self.old }
+        requires opened { IsTrue (was_opened stream self.old) }
         ensures { self.new ≡ offered (Plain (reset_frame stream code)) self.old }
     {
         self.offer_reset(stream, code);
@@ -173,12 +183,21 @@ impl Conn {
     /// Puts a header list on an open stream, which ends it on this side where `end` says so. It fails
     /// only when it runs out of memory, and then nothing has changed.
     pub fn head(&mut self, stream: u32, headers: &Headers, end: bool) -> Result<(), NoMemory>
-        requires open { CanSend stream self.old }
+        requires open { IsTrue (can_send stream self.old) }
         requires small { list_size headers.now ≤ MAX_HEADER_LIST_SIZE }
         ensures put { OnOk result (self.new ≡ offered (PutHeaders stream end headers.now) self.old) }
         ensures unchanged { OnErr result (self.new ≡ self.old) }
     {
         self.put_headers(stream, headers, end)
+    }
+
+    /// Whether this end is a client whose connection goes on, and has streams left to open.
+    pub fn can_open(&self) -> bool
+        ensures { result ≡ can_open self.now }
+    {
+        matches!(self.role, Role::Client)
+            && self.broken.is_none()
+            && self.greatest < GREATEST_WINDOW
     }
 
     /// How many streams this end has open at most.
@@ -195,7 +214,7 @@ impl Conn {
     /// Opens a stream with a header list, and tells which. It is for a client. `TooMany` comes exactly
     /// where as many streams are open as may be. Where it fails nothing has changed.
     pub fn open_call(&mut self, headers: &Headers) -> Result<u32, OpenStop>
-        requires may { CanOpen self.old }
+        requires may { IsTrue (can_open self.old) }
         requires small { list_size headers.now ≤ MAX_HEADER_LIST_SIZE }
         ensures { Opens headers.now self.old result self.new }
     {

@@ -9,7 +9,7 @@ use stream_table::OpenStream;
 
 impl Conn {
     /// Whether the stream was opened on this connection.
-    pub(crate) fn was_opened(&self, stream: u32) -> bool
+    pub fn was_opened(&self, stream: u32) -> bool
         ensures { result ≡ was_opened stream self.now }
     {
         stream % 2 == 1 && stream <= self.greatest
