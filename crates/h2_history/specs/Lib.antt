@@ -1,0 +1,13 @@
+pub mod Standing
+pub mod Puts
+pub mod Verdicts
+pub mod Blocks
+pub mod BlockSizes
+pub mod Settings
+pub mod Frames
+pub mod History
+pub mod Sending
+pub mod Runs
+pub mod RunLaws
+pub mod Turns
+pub mod Unmoved

@@ -1,0 +1,5 @@
+pub mod Blocked
+pub mod Decoding
+pub mod Polling
+pub mod Sending
+pub mod Told

@@ -1,0 +1,250 @@
+//! One end of a connection, and what is done with it.
+
+use crate::{parts, text};
+use esi_base::{List, Octets, Poll};
+use h2_streams::{CallEvent, Conn, OpenStop};
+use hpack::{Header, Headers};
+use std::alloc::{AllocError, Global};
+
+/// An end, and what has happened on it.
+#[derive(Drop)]
+struct Session {
+    alloc: Global,
+    conn: Conn,
+    single: bool,
+    log: String,
+}
+
+/// What happens where these words are done with an end; None where one is no word.
+pub fn answer(
+    alloc: Global,
+    conn: Conn,
+    server: bool,
+    words: &str,
+    single: bool,
+) -> Result<Option<String>, AllocError> {
+    let mut session = Session {
+        alloc,
+        conn,
+        single,
+        log: String::new(alloc),
+    };
+    let mut first = true;
+    for word in words.split_whitespace() {
+        if first && word != "new" {
+            session.begin(server)?;
+        }
+        if !(first && word == "new") && !session.act(word)? {
+            return Ok(None);
+        }
+        first = false;
+    }
+    session.tell_output()?;
+    Ok(Some(session.log))
+}
+
+impl Session {
+    /// Takes what the end has put, and feeds it the first SETTINGS.
+    fn begin(&mut self, server: bool) -> Result<(), AllocError> {
+        self.take();
+        let start = if server { "preface settings" } else { "settings" };
+        if let Some(octets) = parts::octets_of(self.alloc, start)? {
+            self.feed(octets.as_slice())?;
+        }
+        self.take();
+        Ok(())
+    }
+
+    /// Lets all of the output go.
+    fn take(&mut self) {
+        let count = self.conn.output().len();
+        self.conn.take_output(count);
+    }
+
+    /// Does what a word says: octets in hexadecimal digits, or a call with its numbers behind colons.
+    fn act(&mut self, word: &str) -> Result<bool, AllocError> {
+        let mut pieces = word.split(":");
+        let name = pieces.next().unwrap_or("");
+        let stream = number(pieces.next());
+        let count = number(pieces.next());
+        match name {
+            "take" => self.take(),
+            "keep" => self.tell_output()?,
+            "open" => self.open(stream)?,
+            "head" => self.head(stream, count)?,
+            "send" => self.send(stream, count)?,
+            "finish" => self.finish(stream)?,
+            "reset" => self.reset(stream, count)?,
+            "back" => self.give_back(stream, count)?,
+            _ => return self.feed_word(word),
+        }
+        Ok(true)
+    }
+
+    /// Feeds the octets of a word.
+    fn feed_word(&mut self, word: &str) -> Result<bool, AllocError> {
+        let Some(octets) = parts::octets_of(self.alloc, word)? else {
+            return Ok(false);
+        };
+        self.feed(octets.as_slice())?;
+        Ok(true)
+    }
+
+    /// Feeds octets, in one piece or one by one, and tells what happens.
+    fn feed(&mut self, octets: &[u8]) -> Result<(), AllocError> {
+        if !self.single {
+            return self.feed_piece(octets);
+        }
+        for octet in octets {
+            self.feed_piece(&[*octet])?;
+        }
+        Ok(())
+    }
+
+    fn feed_piece(&mut self, octets: &[u8]) -> Result<(), AllocError> {
+        if self.conn.feed(octets).is_err() {
+            return Err(AllocError);
+        }
+        self.poll()
+    }
+
+    /// Tells what happens, up to Pending, or up to the end of the connection, which is told once.
+    fn poll(&mut self) -> Result<(), AllocError> {
+        for _ in 0..1_000_000_000 {
+            match self.conn.poll_call() {
+                Poll::Pending => return Ok(()),
+                Poll::Ready(Err(_failed)) => return Err(AllocError),
+                Poll::Ready(Ok(CallEvent::Broken { code })) => return self.tell_broken(code),
+                Poll::Ready(Ok(event)) => {
+                    let event = text::of_event(self.alloc, &event)?;
+                    self.tell(event.as_str())?;
+                }
+            }
+        }
+        Ok(())
+    }
+
+    fn tell(&mut self, text: &str) -> Result<(), AllocError> {
+        self.log.push_str(text)?;
+        self.log.push_str("; ")
+    }
+
+    /// Tells that the connection has ended, where it was not told before.
+    fn tell_broken(&mut self, code: u32) -> Result<(), AllocError> {
+        let text = format!(in self.alloc; "broken {code}; ")?;
+        if !self.log.as_str().ends_with(text.as_str()) {
+            self.log.push_str(text.as_str())?;
+        }
+        Ok(())
+    }
+
+    /// Tells how many octets the output has, and which.
+    fn tell_output(&mut self) -> Result<(), AllocError> {
+        let output = text::of_output(self.alloc, self.conn.output())?;
+        self.log.push_str(output.as_str())
+    }
+
+    /// Opens so many calls, one at least.
+    fn open(&mut self, count: u32) -> Result<(), AllocError> {
+        for _ in 0..count.max(1) {
+            if self.conn.can_open() {
+                let headers = request(self.alloc)?;
+                match self.conn.open_call(&headers) {
+                    Ok(stream) => {
+                        let text = format!(in self.alloc; "opened {stream}")?;
+                        self.tell(text.as_str())?;
+                    }
+                    Err(OpenStop::TooMany) => self.tell("too many")?,
+                    Err(OpenStop::NoMemory) => return Err(AllocError),
+                }
+            } else {
+                self.tell("may not open")?;
+            }
+        }
+        Ok(())
+    }
+
+    fn head(&mut self, stream: u32, end: u32) -> Result<(), AllocError> {
+        if !self.conn.can_send(stream) {
+            return self.tell("may not send");
+        }
+        let headers = reply(self.alloc)?;
+        if self.conn.head(stream, &headers, end != 0).is_err() {
+            return Err(AllocError);
+        }
+        Ok(())
+    }
+
+    /// Puts octets of DATA, in as many frames as it takes, and tells how many.
+    fn send(&mut self, stream: u32, count: u32) -> Result<(), AllocError> {
+        let octets = Vec::from_elem(self.alloc, 0u8, count as usize)?;
+        let mut sent = 0;
+        while sent < octets.len() {
+            if self.conn.is_broken() || !self.conn.can_send(stream) {
+                return self.tell("may not send");
+            }
+            match self.conn.poll_send(stream, &octets[sent..]) {
+                Poll::Pending => {
+                    let text = format!(in self.alloc; "sent {sent}, pending")?;
+                    return self.tell(text.as_str());
+                }
+                Poll::Ready(more) => sent += more,
+            }
+        }
+        let text = format!(in self.alloc; "sent {sent}")?;
+        self.tell(text.as_str())
+    }
+
+    fn finish(&mut self, stream: u32) -> Result<(), AllocError> {
+        if !self.conn.can_send(stream) {
+            return self.tell("may not send");
+        }
+        self.conn.finish(stream);
+        Ok(())
+    }
+
+    fn reset(&mut self, stream: u32, code: u32) -> Result<(), AllocError> {
+        if self.conn.is_broken() || !self.conn.was_opened(stream) {
+            return self.tell("may not reset");
+        }
+        self.conn.reset(stream, code);
+        Ok(())
+    }
+
+    fn give_back(&mut self, stream: u32, octets: u32) -> Result<(), AllocError> {
+        if self.conn.is_broken() || octets == 0 || octets > 1_048_576 {
+            return self.tell("may not give back");
+        }
+        self.conn.give_back(stream, octets);
+        Ok(())
+    }
+}
+
+/// The number that a piece of a word is; 0 where it is none.
+fn number(piece: Option<&str>) -> u32 {
+    piece.unwrap_or("0").parse::<u32>().unwrap_or(0)
+}
+
+/// A header.
+fn header(alloc: Global, name: &[u8], value: &[u8]) -> Result<Header, AllocError> {
+    Ok(Header {
+        name: Octets::from_slice(alloc, name)?,
+        value: Octets::from_slice(alloc, value)?,
+    })
+}
+
+/// A request's header list.
+fn request(alloc: Global) -> Result<Headers, AllocError> {
+    let mut headers = Vec::new(alloc);
+    headers.push(header(alloc, b":method", b"GET")?)?;
+    headers.push(header(alloc, b":scheme", b"http")?)?;
+    headers.push(header(alloc, b":path", b"/")?)?;
+    Ok(List::from_vec(headers))
+}
+
+/// A reply's.
+fn reply(alloc: Global) -> Result<Headers, AllocError> {
+    let mut headers = Vec::new(alloc);
+    headers.push(header(alloc, b":status", b"200")?)?;
+    Ok(List::from_vec(headers))
+}
