@@ -47,7 +47,11 @@ impl Session {
     /// Takes what the end has put, and feeds it the first SETTINGS.
     fn begin(&mut self, server: bool) -> Result<(), AllocError> {
         self.take();
-        let start = if server { "preface settings" } else { "settings" };
+        let start = if server {
+            "preface settings"
+        } else {
+            "settings"
+        };
         if let Some(octets) = parts::octets_of(self.alloc, start)? {
             self.feed(octets.as_slice())?;
         }
