@@ -1,7 +1,7 @@
 //! Random calls of a ledger, each compared with the plain sums over all calls so far.
 
-use case_words::Numbers;
 use crate::history::{Fault, History};
+use case_words::Numbers;
 use h2_flow::{FlowFault, Ledger};
 use std::alloc::{AllocError, Global};
 
