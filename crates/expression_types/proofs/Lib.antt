@@ -1,1 +1,4 @@
+pub mod Lists
 pub mod Widths
+pub mod Walks
+pub mod Stops

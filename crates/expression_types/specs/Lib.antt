@@ -1,2 +1,4 @@
 pub mod Views
 pub mod Typing
+pub mod WidthLaws
+pub mod TypingEquations

@@ -1,6 +1,6 @@
 -- The type of an expression and its formula, or the place of the innermost expression that breaks its condition.
 use Rattle.std.specs.Prelude.{ℕ, ◌+◌, ◌-◌, ◌*◌, ◌^◌, ◌==◌, ◌&&◌, ◌||◌, if◌then◌else◌, nat_lt, nat_le, not, Bool, true, false, List, [], ◌∷◌, ◌++◌, Option, Some, None, Result, Ok, Err, length, replicate, slice_get}
-use Rattle.std.specs.List.{sum_by, list_all, list_any}
+use Rattle.std.specs.List.{sum_by}
 use Rattle.std.specs.Str.{bytes_eq}
 use Rattle.esi_base.specs.Answers.{◌>>=◌}
 use Rattle.esi_base.specs.Bits.{bits_of}
@@ -11,7 +11,7 @@ use Rattle.channel_types.specs.declared.esi_type.EsiType.{EsiType}
 use Rattle.channel_types.specs.declared.esi_type.EsiType.TheVariants as T
 use Rattle.channel_types.specs.declared.esi_type.EsiType.TheOpen.{EsiType-F, Field-F}
 use Rattle.channel_types.specs.declared.esi_type.EsiType.TheViews.{out-EsiType}
-use Rattle.channel_types.specs.declared.esi_type.EsiType.TheFolds.{fold-EsiType}
+use Rattle.channel_types.specs.declared.esi_type.EsiType.TheFolds.{fold-EsiType, fold-Field}
 use Rattle.channel_types.specs.declared.esi_type.Field.{Field}
 use Rattle.channel_types.specs.Types.{width_of, field_width}
 use Rattle.channel_types.specs.SameTypes.{same_types}
@@ -36,17 +36,17 @@ use Rattle.expression_types.specs.Views.{Variable, Typed, Piece, Parts}
 abbrev pub Typing : Type 0
 Typing = Result Typed ℕ
 
-abbrev pub fits : Typed → Typing
-fits t = Ok t
-
 abbrev pub made : ℕ → EsiType → Formula → Typing
 made at ty formula = Ok (record { at = at; ty = ty; formula = formula })
 
 -- ---- what types are
 
 -- the width of a type, where it is one that values have: 1 to `WIDEST_TYPE` bits, as every type of a design is
-abbrev pub value_width : EsiType → Option ℕ
-value_width ty = if nat_le 1 (width_of ty) && nat_le (width_of ty) WIDEST_TYPE then Some (width_of ty) else None
+abbrev pub ranged : ℕ → Option ℕ
+ranged width = if nat_le 1 width && nat_le width WIDEST_TYPE then Some width else None
+
+unfoldable pub value_width : EsiType → Option ℕ
+value_width ty = ranged (width_of ty)
 
 -- a bits type
 abbrev pub level_number : EsiType-F EsiType Field → Option NumberType
@@ -65,10 +65,14 @@ is_signed Signed = true
 is_signed class = false
 
 -- whether a type is void or has a part that is
+abbrev pub any_void : List Bool → Bool
+any_void [] = false
+any_void (has ∷ rest) = has || any_void rest
+
 abbrev pub void_step : EsiType-F Bool Bool → Bool
 void_step (EsiType-F.Bits class width) = false
 void_step EsiType-F.Void = true
-void_step (EsiType-F.Struct fields) = list_any (λ has. has) fields
+void_step (EsiType-F.Struct fields) = any_void fields
 void_step (EsiType-F.Array item count) = item
 
 abbrev pub field_void_step : Field-F Bool Bool → Bool
@@ -76,6 +80,9 @@ field_void_step f = f.ty
 
 abbrev pub has_void : EsiType → Bool
 has_void = fold-EsiType Bool Bool void_step field_void_step
+
+abbrev pub field_has_void : Field → Bool
+field_has_void = fold-Field Bool Bool void_step field_void_step
 
 -- one bit, a number without sign
 abbrev pub BIT : EsiType
@@ -99,13 +106,23 @@ field_piece name (f ∷ fs) = if bytes_eq f.name name then Some (record { ty = f
 abbrev pub element_piece : ℕ → ℕ → EsiType → Option Piece
 element_piece index count item = if nat_lt index count then Some (record { ty = item; low = index * width_of item }) else None
 
-abbrev pub level_piece : EsiType-F EsiType Field → Suffix → Option Piece
-level_piece (EsiType-F.Struct fields) (X.Field name) = field_piece name.octets fields
-level_piece (EsiType-F.Array item count) (X.Element index) = element_piece index.value count item
-level_piece level suffix = None
+abbrev pub level_field : EsiType-F EsiType Field → List ℕ → Option Piece
+level_field (EsiType-F.Struct fields) name = field_piece name fields
+level_field level name = None
 
-unfoldable pub piece_of : EsiType → Suffix → Option Piece
-piece_of ty suffix = level_piece (out-EsiType ty) suffix
+abbrev pub level_element : EsiType-F EsiType Field → ℕ → Option Piece
+level_element (EsiType-F.Array item count) index = element_piece index count item
+level_element level index = None
+
+unfoldable pub field_of : EsiType → List ℕ → Option Piece
+field_of ty name = level_field (out-EsiType ty) name
+
+unfoldable pub element_of : EsiType → ℕ → Option Piece
+element_of ty index = level_element (out-EsiType ty) index
+
+abbrev pub piece_of : EsiType → Suffix → Option Piece
+piece_of ty (X.Field name) = field_of ty name.octets
+piece_of ty (X.Element index) = element_of ty index.value
 
 abbrev pub sliced : Typed → Piece → Option ℕ → Typing
 sliced of piece None = Err of.at
@@ -123,9 +140,9 @@ abbrev pub part_of : Typed → Suffix → Typing
 part_of of suffix = part_within of suffix (value_width of.ty)
 
 -- each suffix takes its part of what those before it give
-abbrev pub parts_of : List Suffix → Typing → Typing
-parts_of [] of = of
-parts_of (suffix ∷ suffixes) of = parts_of suffixes (of >>= (λ t. part_of t suffix))
+abbrev pub parts_of : List Suffix → Typed → Typing
+parts_of [] of = Ok of
+parts_of (suffix ∷ suffixes) of = part_of of suffix >>= parts_of suffixes
 
 -- ---- lit(T, n)
 
@@ -167,8 +184,12 @@ fields_given (f ∷ fs) [] = false
 fields_given (f ∷ fs) (ty ∷ types) = same_types ty f.ty && fields_given fs types
 
 -- as many parts as elements, each of the item's type
+abbrev pub all_same : EsiType → List EsiType → Bool
+all_same item [] = true
+all_same item (ty ∷ types) = same_types ty item && all_same item types
+
 abbrev pub elements_given : EsiType → ℕ → List EsiType → Bool
-elements_given item count types = (length types == count) && list_all (λ ty. same_types ty item) types
+elements_given item count types = (length types == count) && all_same item types
 
 -- where the parts are those of the type: whether what is joined so far stands above the next part, or below it
 abbrev pub level_joined : EsiType-F EsiType Field → List EsiType → Option Half
@@ -303,7 +324,7 @@ mux_of at condition one other =
 
 abbrev pub typed_step : List Variable → Expression-F Typing → Typing
 typed_step variables (Expression-F.Variable name) = variable_from name 0 variables
-typed_step variables (Expression-F.Part of suffixes) = parts_of suffixes of
+typed_step variables (Expression-F.Part of suffixes) = of >>= parts_of suffixes
 typed_step variables (Expression-F.Literal at ty value) = literal_of at ty value.value
 typed_step variables (Expression-F.Make at ty parts) = gathered no_parts parts >>= make_of at ty
 typed_step variables (Expression-F.Cast at ty of) = of >>= cast_of at ty

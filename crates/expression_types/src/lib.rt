@@ -21,4 +21,4 @@ pub use limits::MAX_VARIABLES;
 pub use literals::literal_word;
 pub use number_type::NumberType;
 pub use typed::{Typed, Variable};
-pub use value_type::{ValueType, number_type, value_width};
+pub use value_type::{ValueType, number_type_of, value_width};

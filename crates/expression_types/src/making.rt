@@ -33,7 +33,7 @@ impl<'a> Parts<'a> {
 
     /// Adds a part behind those that stand.
     pub(crate) fn add(&mut self, part: Typed<'a>) -> Result<(), NoMemory>
-        ensures { OnOk result (parts_in self.new ≡ with_part (parts_in self.old) (typed_in part)) }
+        ensures { OnOk result (parts_in self.new ≡ with_part (parts_in self.old) (typed_in part.entry)) }
     {
         self.types.add(part.ty)?;
         self.formulas.push(part.formula)?;
@@ -47,7 +47,7 @@ pub(crate) fn make_typed<'a>(
     ty: &'a EsiType,
     parts: Parts<'a>,
 ) -> Result<Typed<'a>, Stop<usize>>
-    ensures { AnswersAs typed_in (make_of at ty.now (parts_in parts)) result }
+    ensures { AnswersAs typed_in (make_of at ty.now (parts_in parts.entry)) result }
 {
     let Some(_width) = value_width(ty) else {
         return Err(Stop::Refused(at));

@@ -22,7 +22,7 @@ pub(crate) fn not_typed<'a>(
     at: usize,
     of: Typed<'a>,
 ) -> Result<Typed<'a>, Stop<usize>>
-    ensures { AnswersAs typed_in (not_of at (typed_in of)) result }
+    ensures { AnswersAs typed_in (not_of at (typed_in of.entry)) result }
 {
     let Some(_number) = of.ty.number() else {
         return Err(Stop::Refused(at));
@@ -43,7 +43,7 @@ pub(crate) fn pair_typed<'a>(
     left: Typed<'a>,
     right: Typed<'a>,
 ) -> Result<Typed<'a>, Stop<usize>>
-    ensures { AnswersAs typed_in (pair_of at operator (typed_in left) (typed_in right)) result }
+    ensures { AnswersAs typed_in (pair_of at operator (typed_in left.entry) (typed_in right.entry)) result }
 {
     let Some(ty) = pair_type(operator, &left.ty, &right.ty) else {
         return Err(Stop::Refused(at));
@@ -222,7 +222,7 @@ pub(crate) fn mux_typed<'a>(
     one: Typed<'a>,
     other: Typed<'a>,
 ) -> Result<Typed<'a>, Stop<usize>>
-    ensures { AnswersAs typed_in (mux_of at (typed_in condition) (typed_in one) (typed_in other)) result }
+    ensures { AnswersAs typed_in (mux_of at (typed_in condition.entry) (typed_in one.entry) (typed_in other.entry)) result }
 {
     if !(is_bit(condition.ty.number()) && one.ty.is_same(&other.ty)) {
         return Err(Stop::Refused(at));

@@ -20,7 +20,7 @@ pub(crate) fn cast_typed<'a>(
     ty: &'a EsiType,
     of: Typed<'a>,
 ) -> Result<Typed<'a>, Stop<usize>>
-    ensures { AnswersAs typed_in (cast_of at ty.now (typed_in of)) result }
+    ensures { AnswersAs typed_in (cast_of at ty.now (typed_in of.entry)) result }
 {
     if are_as_wide(value_width(ty), of.ty.width()) && !has_void(ty) {
         Ok(Typed {
@@ -51,7 +51,7 @@ pub(crate) fn zext_typed<'a>(
     width: u128,
     of: Typed<'a>,
 ) -> Result<Typed<'a>, Stop<usize>>
-    ensures { AnswersAs typed_in (zext_of at width (typed_in of)) result }
+    ensures { AnswersAs typed_in (zext_of at width (typed_in of.entry)) result }
 {
     let Some(number) = of.ty.number() else {
         return Err(Stop::Refused(at));
@@ -102,7 +102,7 @@ pub(crate) fn slice_typed<'a>(
     low: u128,
     of: Typed<'a>,
 ) -> Result<Typed<'a>, Stop<usize>>
-    ensures { AnswersAs typed_in (slice_of at high low (typed_in of)) result }
+    ensures { AnswersAs typed_in (slice_of at high low (typed_in of.entry)) result }
 {
     let Some(width) = of.ty.width() else {
         return Err(Stop::Refused(at));

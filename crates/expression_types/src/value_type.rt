@@ -3,7 +3,7 @@ ghost use Rattle.std.specs.Prelude.{◌≡◌, IfOk};
 ghost use Rattle.channel_types.specs.SameTypes.{same_types};
 ghost use Rattle.expression_types.specs.Views.{type_in};
 ghost use Rattle.channel_types.specs.declared.esi_type.EsiType.TheOpen.{EsiType-F};
-ghost use Rattle.expression_types.specs.Typing.{value_width, number_type, level_number};
+ghost use Rattle.expression_types.specs.Typing.{value_width, number_type, level_number, ranged};
 
 use crate::number_type::NumberType;
 use channel_types::{Class, EsiType, WIDEST_TYPE, are_same, capped_width, copied};
@@ -36,8 +36,8 @@ impl<'a> ValueType<'a> {
         ensures { result ≡ number_type (type_in self.now) }
     {
         match self {
-            ValueType::Given(ty) => number_type(ty),
-            ValueType::Number(number) => number_type(&number.ty()),
+            ValueType::Given(ty) => number_type_of(ty),
+            ValueType::Number(number) => number_type_of(&number.ty()),
         }
     }
 
@@ -74,11 +74,16 @@ impl<'a> ValueType<'a> {
 
 /// The width of a type in bits, where it is one that values have: 1 to `WIDEST_TYPE`, as that of each
 /// type of a design is. It takes no memory.
-#[tactic(auto, using(crate::proofs::Widths::capped_value))]
 pub fn value_width(ty: &EsiType) -> Option<u32>
     ensures { result ≡ value_width ty.now }
 {
-    let width = capped_width(ty);
+    ranged(capped_width(ty))
+}
+
+/// A width, where values have it.
+fn ranged(width: u32) -> Option<u32>
+    ensures { result ≡ ranged width }
+{
     if 1 <= width && width <= WIDEST_TYPE {
         Some(width)
     } else {
@@ -88,7 +93,7 @@ pub fn value_width(ty: &EsiType) -> Option<u32>
 
 /// A type as a bits type, where it is one of 1 to `WIDEST_TYPE` bits. It takes no memory.
 #[tactic(auto, unfolding(crate::specs::Typing::number_type))]
-pub fn number_type(ty: &EsiType) -> Option<NumberType>
+pub fn number_type_of(ty: &EsiType) -> Option<NumberType>
     ensures { result ≡ number_type ty.now }
 {
     match ty {
