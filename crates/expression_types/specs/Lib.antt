@@ -2,3 +2,5 @@ pub mod Views
 pub mod Typing
 pub mod WidthLaws
 pub mod TypingEquations
+pub mod Meaning
+pub mod PartLaws
