@@ -4,3 +4,4 @@ pub mod WidthLaws
 pub mod TypingEquations
 pub mod Meaning
 pub mod PartLaws
+pub mod OperatorLaws
