@@ -5,3 +5,4 @@ pub mod TypingEquations
 pub mod Meaning
 pub mod PartLaws
 pub mod OperatorLaws
+pub mod MeaningLaws

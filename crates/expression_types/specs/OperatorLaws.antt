@@ -66,12 +66,12 @@ both_good a b width e h =
 number_good : (a : Option ℕ) (width : ℕ) → a ≡ Some width → width ≤ MAX_NUMBER_WIDTH → size_number a ≡ Some width
 number_good a width e h = ap size_number e ∙ ap (λ (t : Bool). if t then Some width else None) (le-leb width MAX_NUMBER_WIDTH h)
 
-slice_good : (of : Option ℕ) (high low width : ℕ) → of ≡ Some width → low ≤ high → high < width → size_slice of high low ≡ Some (high - low + 1)
+pub slice_good : (of : Option ℕ) (high low width : ℕ) → of ≡ Some width → low ≤ high → high < width → size_slice of high low ≡ Some (high - low + 1)
 slice_good of high low width e h l =
     ap (λ a. size_slice a high low) e
     ∙ ap (λ (t : Bool). if t then Some (high - low + 1) else None) (and_from (nat_le low high) (nat_lt high width) (le-leb low high h) (le-leb (suc high) width l))
 
-concat_good : (high low : Option ℕ) (a b : ℕ) → high ≡ Some a → low ≡ Some b → a + b ≤ MAX_WIDTH → size_concat high low ≡ Some (a + b)
+pub concat_good : (high low : Option ℕ) (a b : ℕ) → high ≡ Some a → low ≡ Some b → a + b ≤ MAX_WIDTH → size_concat high low ≡ Some (a + b)
 concat_good high low a b e h l =
     ap (λ x. size_concat x low) e ∙ ap (λ y. size_concat (Some a) y) h ∙ ap (λ (t : Bool). if t then Some (a + b) else None) (le-leb (a + b) MAX_WIDTH l)
 
@@ -111,7 +111,7 @@ module _ (words : List Bits) where
   pub sound_width : (bits : Bits) (t : Typed) → IsSound words bits t → length bits ≡ width_of t.ty
   sound_width bits t s = sym (ap length s.value) ∙ formula_widths t.formula words (width_of t.ty) s.good
 
-  sound_as : (bits : Bits) (a t : Typed) → a ≡ t → IsSound words bits a → IsSound words bits t
+  pub sound_as : (bits : Bits) (a t : Typed) → a ≡ t → IsSound words bits a → IsSound words bits t
   sound_as bits a t e s = subst (IsSound words bits) e s
 
   pub not_sound : (at : ℕ) (bits : Bits) (a t : Typed) → IsSound words bits a → not_of at a ≡ Ok t → IsSound words (map not bits) t

@@ -4,6 +4,7 @@
 #![tactic(auto)]
 
 mod expression;
+mod laws;
 mod limits;
 mod literals;
 mod making;
@@ -17,6 +18,7 @@ mod variables;
 mod voids;
 
 pub use expression::type_expression;
+pub use laws::meaning_law;
 pub use limits::MAX_VARIABLES;
 pub use literals::literal_word;
 pub use number_type::NumberType;
