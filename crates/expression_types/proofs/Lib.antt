@@ -1,4 +1,3 @@
-pub mod Lists
 pub mod Widths
 pub mod Walks
 pub mod Stops

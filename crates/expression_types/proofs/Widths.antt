@@ -1,10 +1,10 @@
 -- Widths: of types, and of numbers.
-use Rattle.std.proofs.Common.{◌≡◌, ℕ, suc, ◌+◌, ◌-◌, ◌*◌, ◌^◌, ◌<◌, ◌≤◌, Bool, true, false, Option, Some, None, min, refl, ap, sym, ◌∙◌, inl, inr, arith}
-use Rattle.std.specs.Prelude.{nat_lt, nat_le, if◌then◌else◌, ◌&&◌}
-use Rattle.std.proofs.lemmas.Bool.{le-leb, leb-true}
+use Rattle.std.proofs.Common.{◌≡◌, ℕ, suc, ◌^◌, ◌<◌, ◌≤◌, true, min, arith}
+use Rattle.std.specs.Prelude.{nat_lt}
+use Rattle.std.proofs.lemmas.Bool.{le-leb}
 use Rattle.std.proofs.Math.Pow.{pow_mono}
 use Rattle.std.proofs.lemmas.Grind.{common_steps}
-use Rattle.design_lex.specs.declared.limits.TheConstants.{WIDEST_TYPE, TOO_WIDE}
+use Rattle.design_lex.specs.declared.limits.TheConstants.{TOO_WIDE}
 use Rattle.expression_types.specs.Typing.{ranged}
 
 -- a width is in range where the width that stands for it is

@@ -1,5 +1,5 @@
 -- What an expression means: its value over values of its variables, which are words of their types, the lowest bit first.
-use Rattle.std.specs.Prelude.{ℕ, zero, suc, ◌+◌, ◌-◌, ◌*◌, ◌^◌, ◌==◌, ◌&&◌, ◌||◌, if◌then◌else◌, nat_lt, not, map, Bool, List, [], ◌∷◌, ◌++◌, Option, Some, None, Result, Ok, Err, length, take, drop, slice_range}
+use Rattle.std.specs.Prelude.{ℕ, zero, suc, ◌+◌, ◌-◌, ◌^◌, ◌==◌, ◌&&◌, ◌||◌, if◌then◌else◌, nat_lt, not, map, List, [], ◌∷◌, ◌++◌, Ok, Err, length, take, drop, slice_range}
 use Rattle.std.specs.List.{sum_by}
 use Rattle.std.specs.Bool.{xor}
 use Rattle.std.specs.Str.{bytes_eq}
@@ -9,9 +9,8 @@ use Rattle.channel_types.specs.declared.esi_type.EsiType.TheOpen.{EsiType-F}
 use Rattle.channel_types.specs.declared.esi_type.EsiType.TheViews.{out-EsiType}
 use Rattle.channel_types.specs.declared.esi_type.Field.{Field}
 use Rattle.channel_types.specs.Types.{width_of, field_width}
-use Rattle.netlist.specs.Nets.{Bits, word_at}
+use Rattle.netlist.specs.Nets.{Bits}
 use Rattle.netlist.specs.Formulas.{first_highest, first_lowest}
-use Rattle.design_tree.specs.declared.leaves.Name.{Name}
 use Rattle.design_tree.specs.declared.operators.Binary.{Binary}
 use Rattle.design_tree.specs.declared.operators.Binary.TheVariants.{And, Or, Xor, Add, Sub, Eq, Lt, Cat}
 use Rattle.design_tree.specs.declared.expression.Suffix.{Suffix}
@@ -19,7 +18,7 @@ use Rattle.design_tree.specs.declared.expression.Suffix.TheVariants as X
 use Rattle.design_tree.specs.declared.expression.Expression.{Expression}
 use Rattle.design_tree.specs.declared.expression.Expression.TheOpen.{Expression-F}
 use Rattle.design_tree.specs.declared.expression.Expression.TheFolds.{fold-Expression, map-Expression}
-use Rattle.expression_types.specs.Views.{Variable, Typed}
+use Rattle.expression_types.specs.Views.{Variable}
 use Rattle.expression_types.specs.Typing.{Typing, typed_step}
 
 -- ---- variables

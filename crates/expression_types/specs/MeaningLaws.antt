@@ -1,9 +1,9 @@
 -- The formula of an expression is worth what the expression means, and is as wide as its type.
-use Rattle.std.proofs.Common.{◌≡◌, ℕ, zero, suc, ◌+◌, ◌-◌, ◌*◌, ◌<◌, ◌≤◌, ◌==◌, Bool, true, false, Option, Some, None, List, [], ◌∷◌, ◌++◌, length, take, drop, map, replicate, refl, ap, sym, ◌∙◌, subst, arith}
-use Rattle.std.specs.Prelude.{slice_range, slice_get, if◌then◌else◌, ◌&&◌, Result, Ok, Err}
+use Rattle.std.proofs.Common.{◌≡◌, ℕ, ◌+◌, ◌-◌, ◌*◌, ◌≤◌, ◌==◌, Bool, true, false, Option, Some, None, List, [], ◌∷◌, ◌++◌, length, take, drop, map, replicate, refl, ap, sym, ◌∙◌, subst, arith}
+use Rattle.std.specs.Prelude.{slice_range, slice_get, if◌then◌else◌, Result, Ok, Err}
 use Rattle.std.specs.List.{sum_by}
 use Rattle.std.specs.Str.{bytes_eq}
-use Rattle.std.proofs.lemmas.Bool.{leb-true, le-leb, and_parts, eqb-true}
+use Rattle.std.proofs.lemmas.Bool.{and_parts, eqb-true}
 use Rattle.std.proofs.lemmas.Option.{same_Some}
 use Rattle.std.proofs.lemmas.List.{map-append, length-append, append_assoc, append-nil, length-replicate}
 use Rattle.std.proofs.lemmas.List.Sums.{sum_by-cons}
@@ -21,10 +21,9 @@ use Rattle.channel_types.specs.SameTypesLaws.{is_test}
 use Rattle.netlist.specs.declared.limits.TheConstants.{MAX_WIDTH}
 use Rattle.netlist.specs.declared.formula.Half.{Half}
 use Rattle.netlist.specs.declared.formula.Half.TheVariants.{High, Low}
-use Rattle.netlist.specs.declared.formula.Formula.{Formula}
 use Rattle.netlist.specs.declared.formula.Formula.TheVariants as F
 use Rattle.netlist.specs.Nets.{Bits, word_at}
-use Rattle.netlist.specs.Formulas.{worth, size, size_concat, size_join, size_slice, joined}
+use Rattle.netlist.specs.Formulas.{worth, size, size_join, joined}
 use Rattle.netlist.specs.FormulaLaws.{chosen}
 use Rattle.netlist.specs.FormulaEquations.{worth-Var, worth-Slice, worth-Join, size-Var, size-Slice, size-Join}
 use Rattle.design_tree.specs.declared.leaves.Name.{Name}
@@ -35,8 +34,8 @@ use Rattle.design_tree.specs.declared.expression.Expression.TheViews.{roll-Expre
 use Rattle.design_tree.specs.declared.expression.Expression.TheFolds as folds
 use Rattle.expression_types.specs.Views.{Variable, Typed, Piece, Parts}
 use Rattle.expression_types.specs.Typing.{Typing, value_width, variable_from, piece_of, sliced, part_at, part_within, part_of, parts_of, no_parts, with_part, gathered, fields_given, all_same, elements_given, level_joined, join_of, make_joined, make_within, make_of, cast_of, zext_of, slice_of, not_of, pair_of, mux_of, typed_step, typed}
-use Rattle.expression_types.specs.WidthLaws.{HasWidth, value_has}
-use Rattle.expression_types.specs.Meaning.{value_at, part_bits, part_type, parts_bits, level_made, made_bits, pair_bits, Valued, typing_in, bits_in, parts_valued, bits_step, valued_step, valued, mean, variable_width}
+use Rattle.expression_types.specs.WidthLaws.{value_has}
+use Rattle.expression_types.specs.Meaning.{value_at, part_bits, part_type, parts_bits, level_made, made_bits, Valued, typing_in, bits_in, parts_valued, bits_step, valued_step, valued, mean, variable_width}
 use Rattle.expression_types.specs.PartLaws.{piece_found}
 use Rattle.expression_types.specs.OperatorLaws.{IsSound, typed_as, same_typed, slice_good, concat_good, sound_width, sound_as, not_sound, pair_sound, cast_sound, slice_sound, zext_sound, literal_sound, mux_sound}
 
@@ -88,19 +87,20 @@ module _ (words : List Bits) where
           let long = sound_width words bits a s in
           let answer = same_typed (typed_as a.at piece.ty (F.Slice a.formula (piece.low + width - 1) piece.low)) t e in
           let few : piece.low + width - 1 + 1 - piece.low ≡ width = omega (arith, wide.low) in
-          let result : piece.low + width - 1 - piece.low + 1 ≡ width = omega (arith, wide.low) in
-          (own.is_type ∙ ap (λ (t : Typed). t.ty) answer,
-              sound_as words _ _ t answer (record {
-                value =
-                    worth-Slice words a.formula (piece.low + width - 1) piece.low
-                    ∙ ap (λ w. slice_range w piece.low (piece.low + width - 1 + 1)) s.value
-                    ∙ ap (λ n. take n (drop piece.low bits)) (few ∙ sym wide.is)
-                    ∙ sym (own.bits bits long);
-                good =
-                    size-Slice (map length words) a.formula (piece.low + width - 1) piece.low
-                    ∙ slice_good _ (piece.low + width - 1) piece.low (width_of a.ty) s.good (omega (arith, wide.low)) (omega (arith, wide.low, wide.is, own.within))
-                    ∙ ap Some (result ∙ sym wide.is);
-              }))
+          let result : piece.low + width - 1 - piece.low + 1 ≡ width = omega (arith, wide.low) in (
+            own.is_type ∙ ap (λ (t : Typed). t.ty) answer,
+            sound_as words _ _ t answer (record {
+              value =
+                  worth-Slice words a.formula (piece.low + width - 1) piece.low
+                  ∙ ap (λ w. slice_range w piece.low (piece.low + width - 1 + 1)) s.value
+                  ∙ ap (λ n. take n (drop piece.low bits)) (few ∙ sym wide.is)
+                  ∙ sym (own.bits bits long);
+              good =
+                  size-Slice (map length words) a.formula (piece.low + width - 1) piece.low
+                  ∙ slice_good _ (piece.low + width - 1) piece.low (width_of a.ty) s.good (omega (arith, wide.low)) (omega (arith, wide.low, wide.is, own.within))
+                  ∙ ap Some (result ∙ sym wide.is);
+            }),
+          )
 
       at_piece : (piece : Option Piece) → piece_of a.ty suffix ≡ piece → part_at a piece ≡ Ok t → (part_type a.ty suffix ≡ t.ty) × IsSound words (part_bits a.ty suffix bits) t
       at_piece None same e = absurd (cc)

@@ -1,6 +1,6 @@
 -- The formula that an operator gives is worth what the operator means on its operands, and is as wide as its type.
-use Rattle.std.proofs.Common.{◌≡◌, ℕ, zero, suc, ◌+◌, ◌-◌, ◌*◌, ◌^◌, ◌<◌, ◌≤◌, ◌==◌, Bool, true, false, Option, Some, None, List, [], ◌∷◌, ◌++◌, length, take, drop, map, replicate, refl, ap, sym, ◌∙◌, subst, arith}
-use Rattle.std.specs.Prelude.{slice_range, slice_get, if◌then◌else◌, nat_lt, nat_le, ◌&&◌, ◌||◌, not, Result, Ok, Err}
+use Rattle.std.proofs.Common.{◌≡◌, ℕ, suc, ◌+◌, ◌-◌, ◌*◌, ◌^◌, ◌<◌, ◌≤◌, ◌==◌, Bool, true, false, Option, Some, None, List, [], ◌∷◌, ◌++◌, length, map, replicate, refl, ap, sym, ◌∙◌, subst, arith}
+use Rattle.std.specs.Prelude.{slice_range, if◌then◌else◌, nat_lt, nat_le, ◌&&◌, ◌||◌, not, Ok, Err}
 use Rattle.std.specs.Bool.{xor}
 use Rattle.std.proofs.lemmas.Bool.{leb-true, le-leb, and_parts, and_from, eq-eqb, eqb-true}
 use Rattle.std.proofs.lemmas.Option.{same_Some}
@@ -8,7 +8,7 @@ use Rattle.std.proofs.lemmas.List.{length-replicate}
 use Rattle.esi_base.specs.Bits.{number_of, bits_of, zip_bits, same_bits, length-bits_of, bits_of-zero}
 use Rattle.esi_base.specs.BitLists.{bits_of-number_of, bits_of-joined, number_of-below}
 use Rattle.design_lex.specs.declared.token.Class.{Class}
-use Rattle.design_lex.specs.declared.token.Class.TheVariants.{Unsigned, Signed, Plain}
+use Rattle.design_lex.specs.declared.token.Class.TheVariants.{Unsigned, Plain}
 use Rattle.design_lex.specs.declared.limits.TheConstants.{WIDEST_TYPE}
 use Rattle.channel_types.specs.declared.esi_type.EsiType.{EsiType}
 use Rattle.channel_types.specs.declared.esi_type.EsiType.TheVariants as T
@@ -23,7 +23,7 @@ use Rattle.netlist.specs.declared.limits.TheConstants.{MAX_WIDTH, MAX_NUMBER_WID
 use Rattle.netlist.specs.declared.formula.Half.TheVariants.{High, Low}
 use Rattle.netlist.specs.declared.formula.Formula.{Formula}
 use Rattle.netlist.specs.declared.formula.Formula.TheVariants as F
-use Rattle.netlist.specs.Nets.{Bits, word_at}
+use Rattle.netlist.specs.Nets.{Bits}
 use Rattle.netlist.specs.Formulas.{worth, size, size_both, size_number, size_bit, size_choose, size_slice, size_concat}
 use Rattle.netlist.specs.FormulaLaws.{chosen, formula_widths}
 use Rattle.netlist.specs.FormulaEquations.{worth-Const, worth-Not, worth-And, worth-Or, worth-Xor, worth-Add, worth-Sub, worth-Equal, worth-Less, worth-Choose, worth-Slice, worth-Concat, size-Const, size-Not, size-And, size-Or, size-Xor, size-Add, size-Sub, size-Equal, size-Less, size-Choose, size-Slice, size-Concat}

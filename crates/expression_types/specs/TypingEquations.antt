@@ -11,7 +11,7 @@ use Rattle.design_tree.specs.declared.expression.Expression.TheVariants as E
 use Rattle.design_tree.specs.declared.expression.Expression.TheVariants.{rolls-Variable, rolls-Part, rolls-Literal, rolls-Make, rolls-Cast, rolls-Zext, rolls-Slice, rolls-Not, rolls-Binary, rolls-Mux}
 use Rattle.design_tree.specs.declared.expression.Expression.TheOpen.{Expression-F}
 use Rattle.design_tree.specs.declared.expression.Expression.TheFolds.{fold-roll-Expression}
-use Rattle.expression_types.specs.Views.{Variable, Typed}
+use Rattle.expression_types.specs.Views.{Variable}
 use Rattle.expression_types.specs.Typing.{Typing, variable_from, parts_of, literal_of, no_parts, gathered, make_of, cast_of, zext_of, slice_of, not_of, pair_of, mux_of, typed_step, typed}
 
 module _ (vs : List Variable) where

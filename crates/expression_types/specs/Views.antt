@@ -3,7 +3,6 @@ use Rattle.std.specs.Prelude.{ℕ, List, map}
 use Rattle.channel_types.specs.declared.esi_type.EsiType.{EsiType}
 use Rattle.channel_types.specs.declared.esi_type.EsiType.TheVariants as T
 use Rattle.netlist.specs.declared.formula.Formula.{Formula}
-use Rattle.expression_types.specs.declared.number_type.NumberType.{NumberType}
 use Rattle.expression_types.specs.declared.value_type.ValueType.{ValueType}
 use Rattle.expression_types.specs.declared.value_type.ValueType.TheVariants.{Given, Number}
 use Rattle.expression_types.specs.declared.typed.Variable.{Variable as CodeVariable}

@@ -1,6 +1,6 @@
 -- What the width of a type says of it, where values have it.
-use Rattle.std.proofs.Common.{◌≡◌, ℕ, ◌+◌, ◌-◌, ◌*◌, ◌<◌, ◌≤◌, Bool, true, false, Option, Some, None, List, refl, ap, sym, ◌∙◌, subst, arith}
-use Rattle.std.specs.Prelude.{nat_lt, nat_le, if◌then◌else◌, ◌&&◌, IsSome}
+use Rattle.std.proofs.Common.{◌≡◌, ℕ, ◌*◌, ◌≤◌, Bool, Option, Some, None, List, refl, ap, sym, ◌∙◌, subst}
+use Rattle.std.specs.Prelude.{nat_le, if◌then◌else◌, ◌&&◌, IsSome}
 use Rattle.std.specs.List.{sum_by}
 use Rattle.std.proofs.lemmas.Bool.{leb-true, le-leb, and_parts, and_from}
 use Rattle.std.proofs.lemmas.Option.{same_Some}
@@ -18,7 +18,6 @@ use Rattle.netlist.specs.FormulaLaws.{chosen}
 use Rattle.design_tree.specs.declared.expression.Suffix.{Suffix}
 use Rattle.design_tree.specs.declared.expression.Suffix.TheVariants as X
 use Rattle.expression_types.specs.declared.number_type.NumberType.{NumberType}
-use Rattle.expression_types.specs.Views.{Piece}
 use Rattle.expression_types.specs.Typing.{ranged, value_width, level_number, number_type, field_of, element_of, level_field, level_element, piece_of}
 
 -- The type is so many bits wide, 1 to 1,024, as every type of a design is.

@@ -43,11 +43,7 @@ pub(crate) fn parts_typed<'a>(
 }
 
 /// The part that a suffix takes of a value.
-fn part_typed<'a>(
-    alloc: Global,
-    of: Typed<'a>,
-    suffix: &Suffix,
-) -> Result<Typed<'a>, Stop<usize>>
+fn part_typed<'a>(alloc: Global, of: Typed<'a>, suffix: &Suffix) -> Result<Typed<'a>, Stop<usize>>
     ensures { AnswersAs typed_in (part_of (typed_in of.entry) suffix.now) result }
 {
     let Some(width) = of.ty.width() else {

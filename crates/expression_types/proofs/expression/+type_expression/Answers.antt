@@ -1,4 +1,4 @@
-use Rattle.std.proofs.Common.{◌≡◌, List, map, ap, sym, ◌∙◌, subst}
+use Rattle.std.proofs.Common.{List, map, ap, sym, ◌∙◌, subst}
 use Rattle.esi_base.specs.Answers.{StopsAs}
 use Rattle.expression_types.specs.Views.{Variable, variable_in, typed_in}
 use Rattle.expression_types.specs.Typing.{typed, mux_of}

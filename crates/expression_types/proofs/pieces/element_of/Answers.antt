@@ -1,4 +1,4 @@
-use Rattle.std.proofs.Common.{◌≡◌, ◌*◌, ◌≤◌, sym, subst}
+use Rattle.std.proofs.Common.{◌*◌, ◌≤◌, sym, subst}
 use Rattle.design_lex.specs.declared.limits.TheConstants.{WIDEST_TYPE}
 use Rattle.channel_types.specs.Types.{width_of}
 use Rattle.expression_types.specs.WidthLaws.{array_width}

@@ -1,4 +1,4 @@
-use Rattle.std.proofs.Common.{◌≡◌, ◌∙◌, sym, ap}
+use Rattle.std.proofs.Common.{◌∙◌, sym, ap}
 use Rattle.std.specs.List.{sum_by}
 use Rattle.channel_types.specs.Types.{field_width}
 use Rattle.expression_types.specs.WidthLaws.{struct_width}

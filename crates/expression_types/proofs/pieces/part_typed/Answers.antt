@@ -1,4 +1,4 @@
-use Rattle.std.proofs.Common.{◌≡◌, sym, ◌∙◌, arith}
+use Rattle.std.proofs.Common.{sym, ◌∙◌, arith}
 use Rattle.expression_types.specs.WidthLaws.{value_has}
 use Rattle.expression_types.proofs.pieces.part_typed.Goals as goal
 

@@ -1,4 +1,4 @@
-use Rattle.std.proofs.Common.{◌≡◌, sym, ap, ◌∙◌}
+use Rattle.std.proofs.Common.{sym, ap, ◌∙◌}
 use Rattle.expression_types.specs.Views.{type_in}
 use Rattle.expression_types.specs.Typing.{piece_of}
 use Rattle.expression_types.specs.WidthLaws.{no_piece}

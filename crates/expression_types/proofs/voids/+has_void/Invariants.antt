@@ -1,5 +1,4 @@
 use Rattle.std.proofs.Common.{◌≡◌, drop, map}
-use Rattle.std.specs.List.{list_any}
 use Rattle.expression_types.specs.Typing.{field_has_void, any_void}
 use Rattle.expression_types.proofs.voids.+has_void.Given as goal
 
