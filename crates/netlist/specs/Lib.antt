@@ -1,6 +1,7 @@
 pub mod InputPlaces
 pub mod Nets
 pub mod Formulas
+pub mod FormulaEquations
 pub mod FormulaLaws
 pub mod Parts
 pub mod Plans
