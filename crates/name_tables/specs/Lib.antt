@@ -1,0 +1,4 @@
+pub mod Labels
+pub mod Repeats
+pub mod FirstPlaces
+pub mod Keys
