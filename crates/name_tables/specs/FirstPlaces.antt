@@ -1,5 +1,5 @@
 -- The first place at which a rule is broken.
-use Rattle.std.specs.Prelude.{◌≡◌, ℕ, ◌≤◌, Option, Some, None, List, [], ◌∷◌, min}
+use Rattle.std.specs.Prelude.{◌≡◌, ℕ, ◌≤◌, Bool, if◌then◌else◌, Option, Some, None, List, [], ◌∷◌, min}
 
 -- The rule is broken at the place, and at none before it.
 pub record IsFirstPlace (Broken : ℕ → Type 0) (at : ℕ) : Type 0 where
@@ -28,3 +28,7 @@ least_from first (at ∷ more) = least_from (earlier first at) more
 -- the least of some places
 abbrev pub least : List ℕ → Option ℕ
 least = least_from None
+
+-- the place found so far, after a name that is new or stood before
+abbrev pub found_after : Option ℕ → Bool → ℕ → Option ℕ
+found_after place is_new at = if is_new then place else earlier place at

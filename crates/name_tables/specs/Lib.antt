@@ -2,3 +2,8 @@ pub mod Labels
 pub mod Repeats
 pub mod FirstPlaces
 pub mod Keys
+pub mod Tables
+pub mod Lists
+pub mod LabelLaws
+pub mod PlaceLaws
+pub mod ListLaws
