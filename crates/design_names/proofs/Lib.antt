@@ -1,2 +1,4 @@
 pub mod Walks
 pub mod BodyLists
+pub mod Flat
+pub mod RuleLaws

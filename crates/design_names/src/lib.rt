@@ -6,5 +6,8 @@ mod bodies;
 mod body;
 mod counts;
 mod declared_twice;
+mod design_names;
 mod keys;
 mod used_twice;
+
+pub use design_names::DesignNames;
