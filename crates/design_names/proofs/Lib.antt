@@ -2,3 +2,5 @@ pub mod Walks
 pub mod BodyLists
 pub mod Flat
 pub mod RuleLaws
+pub mod Finding
+pub mod Found

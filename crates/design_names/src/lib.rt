@@ -4,10 +4,12 @@
 
 mod bodies;
 mod body;
+mod bundles;
 mod counts;
 mod declared_twice;
 mod design_names;
 mod keys;
+mod lookup;
 mod used_twice;
 
 pub use design_names::DesignNames;
