@@ -4,3 +4,4 @@ pub mod Flat
 pub mod RuleLaws
 pub mod Finding
 pub mod Found
+pub mod Resolved

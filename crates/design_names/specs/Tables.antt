@@ -1,5 +1,6 @@
 -- The names under which declarations are found.
 use Rattle.std.specs.Prelude.{ℕ, List, Option, None, slice_get, nat_lt, if◌then◌else◌}
+use Rattle.design_tree.specs.declared.leaves.Name.{Name}
 use Rattle.design_tree.specs.declared.declarations.Member.{Member}
 use Rattle.design_tree.specs.declared.declarations.Bundle.{Bundle}
 use Rattle.design_tree.specs.declared.declarations.ServicePort.{ServicePort}
@@ -8,6 +9,9 @@ use Rattle.design_tree.specs.declared.declarations.ModulePort.{ModulePort}
 use Rattle.design_tree.specs.declared.declarations.Module.{Module}
 use Rattle.name_tables.specs.Labels.{Label}
 use Rattle.check_rules.specs.References.{named}
+
+abbrev pub name_label : Name → Label
+name_label n = (named n).label
 
 abbrev pub member_label : Member → Label
 member_label m = (named m.name).label

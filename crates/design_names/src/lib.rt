@@ -4,12 +4,17 @@
 
 mod bodies;
 mod body;
+mod body_names;
 mod bundles;
 mod counts;
+mod declared;
 mod declared_twice;
 mod design_names;
 mod keys;
 mod lookup;
+mod modules;
+mod resolving;
+mod services;
 mod used_twice;
 
 pub use design_names::DesignNames;

@@ -49,7 +49,7 @@ impl<'a> NameTable<'a> {
     }
 
     /// Whether it is one of the names.
-    #[tactic(auto, using(crate::proofs::Tables::found_stands))]
+    #[tactic(auto, using(crate::specs::ListLaws::found_stands))]
     pub fn contains(&self, name: &Key<'a>) -> bool
         ensures { result ≡ stands (label_of name.now) self.now }
     {
