@@ -5,3 +5,4 @@ pub mod RuleLaws
 pub mod Finding
 pub mod Found
 pub mod Resolved
+pub mod ReferenceSteps

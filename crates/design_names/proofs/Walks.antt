@@ -32,3 +32,7 @@ least_parts first xs ys = sym (least_from-append first xs ys)
 pub if_ok_then : {A F : Type 0} {P Q : A → Type 0} (r : Result A F) → IfOk r P → ((a : A) → P a → Q a) → IfOk r Q
 if_ok_then (Ok a) p f = f a p
 if_ok_then (Err e) p f = p
+
+-- three lists, one after the other
+pub least_three : (first : Option ℕ) (xs ys zs : List ℕ) → least_from (least_from (least_from first xs) ys) zs ≡ least_from first (xs ++ (ys ++ zs))
+least_three first xs ys zs = least_parts (least_from first xs) ys zs ∙ least_parts first xs (ys ++ zs)
