@@ -6,3 +6,4 @@ pub mod Finding
 pub mod Found
 pub mod Resolved
 pub mod ReferenceSteps
+pub mod UnusedSteps

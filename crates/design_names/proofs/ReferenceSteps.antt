@@ -57,3 +57,11 @@ drive_directions scope first at sink source =
     let a = wrong_source scope source in
     let b = unless is_sink (reference_place sink) (resolve scope sink) in
     sym (least_from-append first a b) ∙ ap (λ l. least_from first (l ++ b)) (sym (append-nil a)) ∙ ap (least_from first) (sym (append-nil ((a ++ []) ++ b)))
+
+-- the same, with what the walk has
+pub instance_step : (scope : Scope) (first place last : Option ℕ) (at : ℕ) (id : ApplicationId) (body : Name) (bindings bs cs : List Binding) (found : Option Module) (statement : Statement)
+    → statement ≡ S.Instance at id body bindings → bs ≡ bindings → cs ≡ bindings → place ≡ least_from first (flat_map (binding_wrong scope) bs) → found ≡ find_module body scope.modules
+    → last ≡ least_from place (flat_map (binding_out (ports_of found)) cs) → last ≡ least_from first (statement_directions scope statement)
+instance_step scope first place last at id body bindings bs cs found statement is same same_too before m after =
+    after ∙ (λ i. least_from ((before ∙ ap (λ l. least_from first (flat_map (binding_wrong scope) l)) same) i) (flat_map (binding_out (ports_of (m i))) (same_too i)))
+    ∙ instance_directions scope first at id body bindings ∙ ap (λ s. least_from first (statement_directions scope s)) (sym is)

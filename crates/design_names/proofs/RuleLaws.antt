@@ -1,5 +1,5 @@
 -- The lists of places are those at which the rules are broken.
-use Rattle.std.proofs.Common.{◌≡◌, ℕ, List, [], ◌∷◌, ◌++◌, map, refl, ap, sym, ◌∙◌, subst}
+use Rattle.std.proofs.Common.{◌≡◌, ℕ, List, [], ◌∷◌, ◌++◌, map, take, refl, ap, sym, ◌∙◌, subst}
 use Rattle.std.specs.Prelude.{Option, Contains}
 use Rattle.std.specs.List.{flat_map}
 use Rattle.std.specs.Borrow.{Bor}
@@ -19,8 +19,12 @@ use Rattle.check_rules.specs.Scopes.{Scope, scopes}
 use Rattle.check_rules.specs.References.{named, channels_of, references_of, reference_named}
 use Rattle.check_rules.specs.DeclaredTwice.{declaration_named, declaration_spaces, statement_spaces, scope_spaces, name_spaces, port_named, ids_of, IsRepeatInOne, BreaksDeclaredTwice}
 use Rattle.check_rules.specs.Counts.{statement_counts, scope_counts, BreaksCounts}
+use Rattle.check_rules.specs.Directions.{statement_directions, scope_directions, BreaksDirections}
 use Rattle.check_rules.specs.Uses.{bound_in, used_in, scope_uses, BreaksUsedTwice}
 use Rattle.design_names.specs.declared.body.Body.{Body}
+use Rattle.design_names.specs.declared.declared.Declared.{Declared}
+use Rattle.design_names.specs.Resolving.{scope_in, AreDeclared}
+use Rattle.design_names.specs.ReferencePlaces.{body_wrong}
 use Rattle.design_names.specs.Bodies.{referred, scope_of, AreBodies}
 use Rattle.design_names.specs.Places.{repeats_in, declaration_repeats, statement_repeats, own_named, body_ids, body_repeats, body_counts, binding_used, statement_used, body_used, statement_bound, body_uses}
 use Rattle.design_names.proofs.Flat.{flat_map_flat, map_flat, flat_map_of_map, map_of_map, flat_map_same, contains_flat, flat_contains}
@@ -91,17 +95,44 @@ used_by (S.Instance at id body bindings) = map_of_map reference_named (λ (b : B
 used_by (S.Channels at names operation) = refl
 used_by (S.Drive at sink source) = refl
 
+pub used_of : (b : Body) → map reference_named (flat_map references_of (referred b.statements)) ≡ body_used b
+used_of b =
+    map_flat reference_named references_of (referred b.statements) ∙ flat_map_of_map (λ s. map reference_named (references_of s)) (λ (s : Bor Statement). s.now) b.statements
+    ∙ flat_map_same (λ (s : Bor Statement). map reference_named (references_of s.now)) (λ s. statement_used s.now) b.statements (λ s. used_by s.now)
+
 uses_of : (declarations : List Declaration) (b : Body) → repeats_in (scope_uses (scope_of declarations b)) ≡ body_uses b
 uses_of declarations b =
-    let used : map reference_named (flat_map references_of (referred b.statements)) ≡ body_used b =
-      map_flat reference_named references_of (referred b.statements) ∙ flat_map_of_map (λ s. map reference_named (references_of s)) (λ (s : Bor Statement). s.now) b.statements
-      ∙ flat_map_same (λ (s : Bor Statement). map reference_named (references_of s.now)) (λ s. statement_used s.now) b.statements (λ s. used_by s.now) in
     let bound : repeats_in (flat_map bound_in (referred b.statements)) ≡ flat_map (λ (s : Bor Statement). statement_bound s.now) b.statements =
       flat_map_flat repeats bound_in (referred b.statements) ∙ flat_map_of_map statement_bound (λ (s : Bor Statement). s.now) b.statements in
-    λ i. repeats (used i) ++ bound i
+    λ i. repeats (used_of b i) ++ bound i
 
 pub reports_used_twice : (declarations : List Declaration) (top : Top) (bodies : List Body) (first : Option ℕ) → AreBodies declarations top bodies → first ≡ least (flat_map body_uses bodies)
     → Reports (BreaksUsedTwice (scopes declarations top)) first
 reports_used_twice declarations top bodies first are e =
     reports_repeats (flat_map scope_uses (scopes declarations top)) (flat_map body_uses bodies) first
     (flat_map_flat repeats scope_uses (scopes declarations top) ∙ of_bodies (λ scope. repeats_in (scope_uses scope)) body_uses declarations top bodies are (uses_of declarations)) e
+
+-- ---- references that go the wrong way
+
+-- a body has the same scope in tables of the declarations
+pub same_scope : (declarations : List Declaration) (d : Declared) (b : Body) → AreDeclared declarations d → scope_of declarations b ≡ scope_in d b
+same_scope declarations d b are =
+    let bs = sym are.bundles_are in let ss = sym are.services_are in let ms = sym are.modules_are in
+    λ i. record {
+  bundles = bs i;
+  services = ss i;
+  modules = take b.before (ms i);
+  ports = b.ports.now;
+  statements = referred b.statements;
+  implements = referred b.implements;
+}
+
+wrong_are : (declarations : List Declaration) (d : Declared) → AreDeclared declarations d → (b : Body) → scope_directions (scope_of declarations b) ≡ body_wrong d b
+wrong_are declarations d are b =
+    ap scope_directions (same_scope declarations d b are) ∙ flat_map_of_map (statement_directions (scope_in d b)) (λ (s : Bor Statement). s.now) b.statements
+
+pub reports_directions : (declarations : List Declaration) (top : Top) (d : Declared) (bodies : List Body) (first : Option ℕ) → AreDeclared declarations d → AreBodies declarations top bodies
+    → first ≡ least (flat_map (body_wrong d) bodies) → Reports (BreaksDirections (scopes declarations top)) first
+reports_directions declarations top d bodies first are_declared are e =
+    let places : flat_map scope_directions (scopes declarations top) ≡ flat_map (body_wrong d) bodies = of_bodies scope_directions (body_wrong d) declarations top bodies are (wrong_are declarations d are_declared) in
+    subst (Reports (BreaksDirections (scopes declarations top))) (ap least places ∙ sym e) (least_reports (flat_map scope_directions (scopes declarations top)))
