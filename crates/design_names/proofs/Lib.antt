@@ -7,3 +7,4 @@ pub mod Found
 pub mod Resolved
 pub mod ReferenceSteps
 pub mod UnusedSteps
+pub mod VariableSteps

@@ -17,7 +17,8 @@ use Rattle.name_tables.specs.PlaceLaws.{least_from-append}
 use Rattle.check_rules.specs.Scopes.{Scope, find_module}
 use Rattle.check_rules.specs.References.{operation_sources, reference_place, resolve}
 use Rattle.check_rules.specs.Directions.{is_sink, unless, ports_of, statement_directions}
-use Rattle.design_names.specs.ReferencePlaces.{wrong_source, binding_wrong, binding_out}
+use Rattle.check_rules.specs.Undeclared.{references_undeclared}
+use Rattle.design_names.specs.ReferencePlaces.{wrong_source, binding_wrong, binding_out, reference_undeclared, binding_undeclared}
 use Rattle.design_names.proofs.Flat.{flat_map_of_map}
 
 -- ---- the sources of an operation
@@ -65,3 +66,15 @@ pub instance_step : (scope : Scope) (first place last : Option ℕ) (at : ℕ) (
 instance_step scope first place last at id body bindings bs cs found statement is same same_too before m after =
     after ∙ (λ i. least_from ((before ∙ ap (λ l. least_from first (flat_map (binding_wrong scope) l)) same) i) (flat_map (binding_out (ports_of (m i))) (same_too i)))
     ∙ instance_directions scope first at id body bindings ∙ ap (λ s. least_from first (statement_directions scope s)) (sym is)
+
+-- ---- references of a statement
+
+pub instance_references : (scope : Scope) (first : Option ℕ) (at : ℕ) (id : ApplicationId) (body : Name) (bindings : List Binding)
+    → least_from first (flat_map (binding_undeclared scope) bindings) ≡ least_from first (references_undeclared scope (S.Instance at id body bindings))
+instance_references scope first at id body bindings = ap (least_from first) (sym (flat_map_of_map (reference_undeclared scope) (λ (b : Binding). b.source) bindings))
+
+pub drive_references : (scope : Scope) (first : Option ℕ) (at : ℕ) (sink source : Reference)
+    → least_from (least_from first (reference_undeclared scope sink)) (reference_undeclared scope source) ≡ least_from first (references_undeclared scope (S.Drive at sink source))
+drive_references scope first at sink source =
+    sym (least_from-append first (reference_undeclared scope sink) (reference_undeclared scope source))
+    ∙ ap (λ l. least_from first (reference_undeclared scope sink ++ l)) (sym (append-nil (reference_undeclared scope source)))

@@ -36,3 +36,6 @@ if_ok_then (Err e) p f = p
 -- three lists, one after the other
 pub least_three : (first : Option ℕ) (xs ys zs : List ℕ) → least_from (least_from (least_from first xs) ys) zs ≡ least_from first (xs ++ (ys ++ zs))
 least_three first xs ys zs = least_parts (least_from first xs) ys zs ∙ least_parts first xs (ys ++ zs)
+
+pub least_left : (first : Option ℕ) (xs ys zs : List ℕ) → least_from (least_from (least_from first xs) ys) zs ≡ least_from first ((xs ++ ys) ++ zs)
+least_left first xs ys zs = ap (λ f. least_from f zs) (least_parts first xs ys) ∙ least_parts first (xs ++ ys) zs

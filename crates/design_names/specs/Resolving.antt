@@ -6,6 +6,7 @@ use Rattle.design_tree.specs.declared.statements.Statement.TheVariants as S
 use Rattle.design_tree.specs.declared.declarations.ModulePort.{ModulePort}
 use Rattle.design_tree.specs.declared.declarations.Declaration.{Declaration}
 use Rattle.design_tree.specs.declared.declarations.Bundle.{Bundle}
+use Rattle.design_tree.specs.declared.top.Top.{Top}
 use Rattle.name_tables.specs.Labels.{Label}
 use Rattle.name_tables.specs.Lists.{index_in}
 use Rattle.check_rules.specs.declared.referent.Resolution.{Resolution}
@@ -16,7 +17,7 @@ use Rattle.check_rules.specs.References.{named, id_named, channels_of, port_refe
 use Rattle.design_names.specs.declared.body.Body.{Body}
 use Rattle.design_names.specs.declared.body_names.BodyNames.{BodyNames}
 use Rattle.design_names.specs.declared.declared.Declared.{Declared}
-use Rattle.design_names.specs.Bodies.{referred}
+use Rattle.design_names.specs.Bodies.{referred, AreBodies}
 use Rattle.design_names.specs.Tables.{port_label, name_label}
 
 -- The tables are those of these declarations.
@@ -24,6 +25,11 @@ pub record AreDeclared (declarations : List Declaration) (d : Declared) : Type 0
   pub bundles_are : d.bundles ≡ bundles_of declarations
   pub services_are : d.services ≡ services_of declarations
   pub modules_are : d.modules ≡ modules_of declarations
+
+-- What the walks have is of this design.
+pub record AreTables (declarations : List Declaration) (top : Top) (d : Declared) (bodies : List Body) : Type 0 where
+  pub declared_are : AreDeclared declarations d
+  pub bodies_are : AreBodies declarations top bodies
 
 -- a body, with what is declared in tables
 abbrev pub scope_in : Declared → Body → Scope

@@ -3,13 +3,17 @@ ghost use Rattle.std.specs.Prelude.{◌≡◌, IfOk};
 ghost use Rattle.name_tables.specs.FirstPlaces.{Reports};
 ghost use Rattle.check_rules.specs.DeclaredTwice.{BreaksDeclaredTwice};
 ghost use Rattle.check_rules.specs.Counts.{BreaksCounts};
-ghost use Rattle.check_rules.specs.Uses.{BreaksUsedTwice};
+ghost use Rattle.check_rules.specs.Directions.{BreaksDirections};
+ghost use Rattle.check_rules.specs.Uses.{BreaksUsedTwice, BreaksUnused};
 ghost use Rattle.design_names.specs.Bodies.{DesignText, bodies_in, text_of};
 
 use crate::bodies::bodies_of;
 use crate::body::Body;
 use crate::counts::first_count;
+use crate::declared::Declared;
 use crate::declared_twice::first_declared_twice;
+use crate::directions::first_direction;
+use crate::unused::first_unused;
 use crate::used_twice::first_used_twice;
 use design_tree::{Declaration, Top};
 use esi_base::{List, NoMemory};
@@ -22,11 +26,13 @@ use std::marker::Model;
 pub struct DesignNames<'a> {
     declarations: &'a [Declaration],
     top: &'a Top,
+    declared: Declared<'a>,
     bodies: List<Body<'a>>,
 }
 
 impl<'a> Model for DesignNames<'a> {
-    ghost use Rattle.design_names.specs.Bodies.{DesignText, AreBodies, text_of};
+    ghost use Rattle.design_names.specs.Bodies.{DesignText, text_of};
+    ghost use Rattle.design_names.specs.Resolving.{AreTables};
     ghost use Rattle.channel_types.specs.contracts.esi_type.EsiType as ty;
     ghost use Rattle.design_tree.specs.contracts.expression.Expression as expression;
     ghost use Rattle.std.specs.Coded.{codes};
@@ -37,7 +43,7 @@ impl<'a> Model for DesignNames<'a> {
 
     ghost view = { λ d. text_of d.declarations.now d.top.now };
 
-    ghost invariant = { λ d. AreBodies d.declarations.now d.top.now d.bodies };
+    ghost invariant = { λ d. AreTables d.declarations.now d.top.now d.declared d.bodies };
 }
 
 impl<'a> DesignNames<'a> {
@@ -49,10 +55,12 @@ impl<'a> DesignNames<'a> {
     ) -> Result<DesignNames<'a>, NoMemory>
         ensures { IfOk result (λ names. names ≡ text_of declarations.now top.now) }
     {
+        let declared = Declared::of(alloc, declarations)?;
         let bodies = bodies_of(alloc, declarations, top)?;
         Ok(DesignNames {
             declarations,
             top,
+            declared,
             bodies,
         })
     }
@@ -78,5 +86,20 @@ impl<'a> DesignNames<'a> {
         ensures { IfOk result (Reports (BreaksUsedTwice (bodies_in self.now))) }
     {
         first_used_twice(alloc, self.bodies.as_slice())
+    }
+
+    /// The first place of a reference that goes the wrong way. It takes time in n log n.
+    pub fn first_direction(&self, alloc: Global) -> Result<Option<usize>, NoMemory>
+        ensures { IfOk result (Reports (BreaksDirections (bodies_in self.now))) }
+    {
+        first_direction(alloc, &self.declared, self.bodies.as_slice())
+    }
+
+    /// The first place of what is not used, driven or bound. It takes time in n log n where nothing is
+    /// used twice.
+    pub fn first_unused(&self, alloc: Global) -> Result<Option<usize>, NoMemory>
+        ensures { IfOk result (Reports (BreaksUnused (bodies_in self.now))) }
+    {
+        first_unused(alloc, &self.declared, self.bodies.as_slice())
     }
 }

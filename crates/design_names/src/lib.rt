@@ -18,7 +18,9 @@ mod operation_sources;
 mod resolving;
 mod scope_names;
 mod services;
+mod undeclared;
 mod unused;
 mod used_twice;
+mod variables;
 
 pub use design_names::DesignNames;

@@ -111,6 +111,13 @@ impl<'a> Services<'a> {
         Ok(Services { services, names })
     }
 
+    /// The services, in the text's order.
+    pub fn all(&self) -> &[ServiceNames<'a>]
+        ensures { result.now ≡ self.now }
+    {
+        self.services.as_slice()
+    }
+
     /// The first service of a name.
     #[tactic(auto, using(crate::proofs::Found::service_found))]
     pub fn find(&self, name: &'a Name) -> Option<&ServiceNames<'a>>

@@ -12,4 +12,4 @@ use Rattle.design_names.proofs.design_names.DesignNames.first_count.Goals as goa
 
 pub returns : goal.returns
 returns c = subst (λ d. Reports (BreaksCounts (bodies_in d)) c.first_count.result) c.self.view_is
-    ((reports_counts c.self.inside.declarations.now c.self.inside.top.now c.self.inside.bodies c.first_count.result c.self.invariant (c.first_count.ensures ∙ ap (λ bs. least (flat_map body_counts bs)) c.as_slice.ensures)))
+    ((reports_counts c.self.inside.declarations.now c.self.inside.top.now c.self.inside.bodies c.first_count.result c.self.invariant.bodies_are (c.first_count.ensures ∙ ap (λ bs. least (flat_map body_counts bs)) c.as_slice.ensures)))

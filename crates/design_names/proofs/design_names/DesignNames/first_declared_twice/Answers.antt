@@ -12,5 +12,5 @@ use Rattle.design_names.proofs.design_names.DesignNames.first_declared_twice.Goa
 
 pub returns : goal.returns
 returns c = subst (λ d. IfOk c.first_declared_twice.result (Reports (BreaksDeclaredTwice d.declarations (bodies_in d)))) c.self.view_is
-    (if_ok_then c.first_declared_twice.result c.first_declared_twice.ensures (λ first e. reports_declared_twice c.self.inside.declarations.now c.self.inside.top.now c.self.inside.bodies first c.self.invariant
+    (if_ok_then c.first_declared_twice.result c.first_declared_twice.ensures (λ first e. reports_declared_twice c.self.inside.declarations.now c.self.inside.top.now c.self.inside.bodies first c.self.invariant.bodies_are
     (e ∙ ap (λ bs. least (repeats (map declaration_named c.self.inside.declarations.now) ++ (flat_map declaration_repeats c.self.inside.declarations.now ++ flat_map body_repeats bs))) c.as_slice.ensures)))

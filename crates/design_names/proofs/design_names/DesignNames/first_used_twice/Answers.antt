@@ -12,4 +12,4 @@ use Rattle.design_names.proofs.design_names.DesignNames.first_used_twice.Goals a
 
 pub returns : goal.returns
 returns c = subst (λ d. IfOk c.first_used_twice.result (Reports (BreaksUsedTwice (bodies_in d)))) c.self.view_is
-    (if_ok_then c.first_used_twice.result c.first_used_twice.ensures (λ first e. reports_used_twice c.self.inside.declarations.now c.self.inside.top.now c.self.inside.bodies first c.self.invariant (e ∙ ap (λ bs. least (flat_map body_uses bs)) c.as_slice.ensures)))
+    (if_ok_then c.first_used_twice.result c.first_used_twice.ensures (λ first e. reports_used_twice c.self.inside.declarations.now c.self.inside.top.now c.self.inside.bodies first c.self.invariant.bodies_are (e ∙ ap (λ bs. least (flat_map body_uses bs)) c.as_slice.ensures)))
