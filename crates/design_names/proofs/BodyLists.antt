@@ -49,15 +49,15 @@ pub bodies_are : (declarations : List Declaration) (top : Top) (ms : List Module
 bodies_are declarations top ms bs n b e many are is =
     map-append (scope_of declarations) bs (b ∷ [])
     ∙ (λ i. module_scopes_are declarations [] (modules_of declarations) bs refl (subst (λ l. AreModuleBodies 0 l bs) e are) i
-      ++ top_scope_is declarations top n b (many ∙ ap length e) is i ∷ [])
+    ++ top_scope_is declarations top n b (many ∙ ap length e) is i ∷ [])
 
 -- one module more, of a walk
 pub bodies_next : (modules : List (Bor Module)) (i : ℕ) (m : Bor Module) (bs : List Body) (b : Body) (more : List Body) → i < length modules → m ≡ get_or modules i m
     → AreModuleBodies 0 (take i (referred modules)) bs → IsBody i m.now.ports m.now.body [] b → more ≡ bs ++ b ∷ [] → AreModuleBodies 0 (take (i + 1) (referred modules)) more
 bodies_next modules i m bs b more within is are one e =
     let next : take (i + 1) (referred modules) ≡ take i (referred modules) ++ m.now ∷ [] =
-      take-map (λ (r : Bor Module). r.now) (i + 1) modules ∙ map_more (λ (r : Bor Module). r.now) modules i m within
-      ∙ ap (λ l. l ++ (get_or modules i m).now ∷ []) (sym (take-map (λ (r : Bor Module). r.now) i modules)) ∙ ap (λ r. take i (referred modules) ++ r.now ∷ []) (sym is) in
+    take-map (λ (r : Bor Module). r.now) (i + 1) modules ∙ map_more (λ (r : Bor Module). r.now) modules i m within
+    ∙ ap (λ l. l ++ (get_or modules i m).now ∷ []) (sym (take-map (λ (r : Bor Module). r.now) i modules)) ∙ ap (λ r. take i (referred modules) ++ r.now ∷ []) (sym is) in
     let long : length (take i (referred modules)) ≡ i = length-take-le i (referred modules) (let same : length (referred modules) ≡ length modules = length-map modules (λ (r : Bor Module). r.now) in omega arith) in
     let many : i ≡ 0 + length (take i (referred modules)) = omega arith in
     subst (λ l. AreModuleBodies 0 (take (i + 1) (referred modules)) l) (sym e)

@@ -97,6 +97,7 @@ before_parts {A} label f n xs front rest split few ends =
   where
     many : length (map f front) ≡ length front
     many = length-map front f
+
     cases : (o : Option ℕ) → index_in label (map f front) ≡ o → (p : Option ℕ) → index_from label (0 + length (map f front)) (map f rest) ≡ p
         → and_then (or_else o p) (get_below n xs) ≡ and_then o (slice_get front)
     cases (Some k) here p e =
@@ -115,5 +116,6 @@ find_before {A} name f n xs =
   where
     short_or_long : (a b : ℕ) → (b ≤ a) ⊎ (a ≤ b)
     short_or_long a b = grind arith
+
     ends : (drop n xs ≡ []) ⊎ (length (take n xs) ≡ n)
     ends = elim (short_or_long n (length xs)) [ inl short ↦ inl (drop_all n xs short) | inr long ↦ inr (let taken = length-take n xs in omega arith) ]

@@ -17,8 +17,12 @@ use Rattle.name_tables.specs.PlaceLaws.{least_from-append}
 use Rattle.check_rules.specs.Scopes.{Scope, find_module}
 use Rattle.check_rules.specs.References.{operation_sources, reference_place, resolve}
 use Rattle.check_rules.specs.Directions.{is_sink, unless, ports_of, statement_directions}
-use Rattle.check_rules.specs.Undeclared.{references_undeclared}
-use Rattle.design_names.specs.ReferencePlaces.{wrong_source, binding_wrong, binding_out, reference_undeclared, binding_undeclared}
+use Rattle.check_rules.specs.Undeclared.{references_undeclared, statement_undeclared}
+use Rattle.design_names.specs.ReferencePlaces.{wrong_source, binding_wrong, binding_out, reference_undeclared, binding_undeclared, implement_undeclared, body_undeclared}
+use Rattle.design_names.specs.declared.body.Body.{Body}
+use Rattle.design_names.specs.declared.declared.Declared.{Declared}
+use Rattle.design_names.specs.Resolving.{scope_in}
+use Rattle.std.specs.Borrow.{Bor}
 use Rattle.design_names.proofs.Flat.{flat_map_of_map}
 
 -- ---- the sources of an operation
@@ -41,7 +45,7 @@ no_module_outs first bindings = ap (least_from first) (sym (no_outs bindings))
 
 pub instance_directions : (scope : Scope) (first : Option ℕ) (at : ℕ) (id : ApplicationId) (body : Name) (bindings : List Binding)
     → least_from (least_from first (flat_map (binding_wrong scope) bindings)) (flat_map (binding_out (ports_of (find_module body scope.modules))) bindings)
-      ≡ least_from first (statement_directions scope (S.Instance at id body bindings))
+    ≡ least_from first (statement_directions scope (S.Instance at id body bindings))
 instance_directions scope first at id body bindings =
     sym (least_from-append first (flat_map (binding_wrong scope) bindings) (flat_map (binding_out (ports_of (find_module body scope.modules))) bindings))
     ∙ ap (λ l. least_from first (l ++ flat_map (binding_out (ports_of (find_module body scope.modules))) bindings)) (sym (flat_map_of_map (wrong_source scope) (λ (b : Binding). b.source) bindings) ∙ sym (append-nil (flat_map (wrong_source scope) (map (λ (b : Binding). b.source) bindings))))
@@ -78,3 +82,17 @@ pub drive_references : (scope : Scope) (first : Option ℕ) (at : ℕ) (sink sou
 drive_references scope first at sink source =
     sym (least_from-append first (reference_undeclared scope sink) (reference_undeclared scope source))
     ∙ ap (λ l. least_from first (reference_undeclared scope sink ++ l)) (sym (append-nil (reference_undeclared scope source)))
+
+pub instance_references_step : (scope : Scope) (first place : Option ℕ) (at : ℕ) (id : ApplicationId) (body : Name) (bindings bs : List Binding) (statement : Statement)
+    → statement ≡ S.Instance at id body bindings → bs ≡ bindings → place ≡ least_from first (flat_map (binding_undeclared scope) bs) → place ≡ least_from first (references_undeclared scope statement)
+instance_references_step scope first place at id body bindings bs statement is same walked =
+    walked ∙ ap (λ l. least_from first (flat_map (binding_undeclared scope) l)) same ∙ instance_references scope first at id body bindings ∙ ap (λ s. least_from first (references_undeclared scope s)) (sym is)
+
+-- ---- a body
+
+pub body_step : (d : Declared) (b : Body) (first place last : Option ℕ) (sts : List (Bor Statement)) (implements : List (Bor Name)) → sts ≡ b.statements → implements ≡ b.implements
+    → place ≡ least_from first (flat_map (λ s. statement_undeclared (scope_in d b) s.now) sts) → last ≡ least_from place (flat_map (λ n. implement_undeclared d.services n.now) implements)
+    → last ≡ least_from first (body_undeclared d b)
+body_step d b first place last sts implements same same_too one two =
+    two ∙ (λ i. least_from ((one ∙ ap (λ l. least_from first (flat_map (λ s. statement_undeclared (scope_in d b) s.now) l)) same) i) (flat_map (λ n. implement_undeclared d.services n.now) (same_too i)))
+    ∙ sym (least_from-append first (flat_map (λ s. statement_undeclared (scope_in d b) s.now) b.statements) (flat_map (λ n. implement_undeclared d.services n.now) b.implements))

@@ -60,7 +60,7 @@ pub owner_found : (id : ApplicationId) (b : Body) (n : BodyNames) (o : Option �
 owner_found id b n o names e =
     copied_get n.owners o
     ∙ (λ i. and_then ((e ∙ ap (index_in (id_named id).label) (names.ids_are ∙ sym (flat_map_of_map id_labels (λ (s : Bor Statement). s.now) b.statements))) i)
-      (slice_get ((names.owners_are ∙ sym (flat_map_of_map id_owners (λ (s : Bor Statement). s.now) b.statements)) i)))
+    (slice_get ((names.owners_are ∙ sym (flat_map_of_map id_owners (λ (s : Bor Statement). s.now) b.statements)) i)))
     ∙ owner_from id [] (referred b.statements) 0 refl
 
 -- ---- a name of the body's own
@@ -103,5 +103,5 @@ own_found d b name =
     ap (λ l. own_at_index ports name (index_in label (map port_label ports ++ l))) (channels_are b)
     ∙ ap (own_at_index ports name) (index_append label 0 (map port_label ports) (map name_label channels))
     ∙ own_parts (scope_in d b) name ports (index_in label (map port_label ports)) (index_from label n (map name_label channels)) (find_named name (λ p. p.name) ports)
-      (λ k e. let high = (index_within label 0 k (map port_label ports) e).1 in omega arith) (λ k e. let low = (index_within label n k (map name_label channels) e).0 in omega arith)
-      (found_from label n (map name_label channels) ∙ any_of_map (same_label label) name_label channels)
+    (λ k e. let high = (index_within label 0 k (map port_label ports) e).1 in omega arith) (λ k e. let low = (index_within label n k (map name_label channels) e).0 in omega arith)
+    (found_from label n (map name_label channels) ∙ any_of_map (same_label label) name_label channels)

@@ -15,7 +15,8 @@ use Rattle.name_tables.specs.FirstPlaces.{Reports, least}
 use Rattle.name_tables.specs.PlaceLaws.{least_tells, least_reports}
 use Rattle.name_tables.specs.Lists.{repeats}
 use Rattle.name_tables.specs.ListLaws.{repeats_are, are_repeats}
-use Rattle.check_rules.specs.Scopes.{Scope, scopes}
+use Rattle.check_rules.specs.Scopes.{Scope, scopes, bundles_of, services_of}
+use Rattle.check_rules.specs.Undeclared.{service_undeclared, statement_undeclared, scope_undeclared, undeclared_places, BreaksUndeclared}
 use Rattle.check_rules.specs.References.{named, channels_of, references_of, reference_named}
 use Rattle.check_rules.specs.DeclaredTwice.{declaration_named, declaration_spaces, statement_spaces, scope_spaces, name_spaces, port_named, ids_of, IsRepeatInOne, BreaksDeclaredTwice}
 use Rattle.check_rules.specs.Counts.{statement_counts, scope_counts, BreaksCounts}
@@ -24,7 +25,7 @@ use Rattle.check_rules.specs.Uses.{bound_in, used_in, scope_uses, BreaksUsedTwic
 use Rattle.design_names.specs.declared.body.Body.{Body}
 use Rattle.design_names.specs.declared.declared.Declared.{Declared}
 use Rattle.design_names.specs.Resolving.{scope_in, AreDeclared}
-use Rattle.design_names.specs.ReferencePlaces.{body_wrong}
+use Rattle.design_names.specs.ReferencePlaces.{body_wrong, implement_undeclared, body_undeclared}
 use Rattle.design_names.specs.Bodies.{referred, scope_of, AreBodies}
 use Rattle.design_names.specs.Places.{repeats_in, declaration_repeats, statement_repeats, own_named, body_ids, body_repeats, body_counts, binding_used, statement_used, body_used, statement_bound, body_uses}
 use Rattle.design_names.proofs.Flat.{flat_map_flat, map_flat, flat_map_of_map, map_of_map, flat_map_same, contains_flat, flat_contains}
@@ -65,11 +66,11 @@ reports_repeats lists places first same e = subst (Reports (IsRepeatInOne lists)
 repeats_of : (declarations : List Declaration) (b : Body) → repeats_in (scope_spaces (scope_of declarations b)) ≡ body_repeats b
 repeats_of declarations b =
     let own : map port_named b.ports.now ++ map named (flat_map channels_of (referred b.statements)) ≡ own_named b =
-      ap (λ l. map port_named b.ports.now ++ l) (map_flat named channels_of (referred b.statements) ∙ flat_map_of_map (λ s. map named (channels_of s)) (λ (s : Bor Statement). s.now) b.statements) in
+    ap (λ l. map port_named b.ports.now ++ l) (map_flat named channels_of (referred b.statements) ∙ flat_map_of_map (λ s. map named (channels_of s)) (λ (s : Bor Statement). s.now) b.statements) in
     let ids : flat_map ids_of (referred b.statements) ≡ body_ids b = flat_map_of_map ids_of (λ (s : Bor Statement). s.now) b.statements in
     let implements : map named (referred b.implements) ≡ map (λ (n : Bor Name). named n.now) b.implements = map_of_map named (λ (n : Bor Name). n.now) b.implements in
     let rest : repeats_in (flat_map statement_spaces (referred b.statements)) ≡ flat_map (λ (s : Bor Statement). statement_repeats s.now) b.statements =
-      flat_map_flat repeats statement_spaces (referred b.statements) ∙ flat_map_of_map statement_repeats (λ (s : Bor Statement). s.now) b.statements in
+    flat_map_flat repeats statement_spaces (referred b.statements) ∙ flat_map_of_map statement_repeats (λ (s : Bor Statement). s.now) b.statements in
     λ i. repeats (own i) ++ (repeats (ids i) ++ (repeats (implements i) ++ rest i))
 
 repeats_of_all : (declarations : List Declaration) (top : Top) (bodies : List Body) → AreBodies declarations top bodies
@@ -78,7 +79,7 @@ repeats_of_all declarations top bodies are =
     ap (λ l. repeats (map declaration_named declarations) ++ l)
     (flat_map-append repeats (flat_map declaration_spaces declarations) (flat_map scope_spaces (scopes declarations top))
     ∙ (λ i. flat_map_flat repeats declaration_spaces declarations i
-      ++ (flat_map_flat repeats scope_spaces (scopes declarations top) ∙ of_bodies (λ scope. repeats_in (scope_spaces scope)) body_repeats declarations top bodies are (repeats_of declarations)) i))
+    ++ (flat_map_flat repeats scope_spaces (scopes declarations top) ∙ of_bodies (λ scope. repeats_in (scope_spaces scope)) body_repeats declarations top bodies are (repeats_of declarations)) i))
 
 pub reports_declared_twice : (declarations : List Declaration) (top : Top) (bodies : List Body) (first : Option ℕ) → AreBodies declarations top bodies
     → first ≡ least (repeats (map declaration_named declarations) ++ (flat_map declaration_repeats declarations ++ flat_map body_repeats bodies))
@@ -103,7 +104,7 @@ used_of b =
 uses_of : (declarations : List Declaration) (b : Body) → repeats_in (scope_uses (scope_of declarations b)) ≡ body_uses b
 uses_of declarations b =
     let bound : repeats_in (flat_map bound_in (referred b.statements)) ≡ flat_map (λ (s : Bor Statement). statement_bound s.now) b.statements =
-      flat_map_flat repeats bound_in (referred b.statements) ∙ flat_map_of_map statement_bound (λ (s : Bor Statement). s.now) b.statements in
+    flat_map_flat repeats bound_in (referred b.statements) ∙ flat_map_of_map statement_bound (λ (s : Bor Statement). s.now) b.statements in
     λ i. repeats (used_of b i) ++ bound i
 
 pub reports_used_twice : (declarations : List Declaration) (top : Top) (bodies : List Body) (first : Option ℕ) → AreBodies declarations top bodies → first ≡ least (flat_map body_uses bodies)
@@ -119,13 +120,13 @@ pub same_scope : (declarations : List Declaration) (d : Declared) (b : Body) →
 same_scope declarations d b are =
     let bs = sym are.bundles_are in let ss = sym are.services_are in let ms = sym are.modules_are in
     λ i. record {
-  bundles = bs i;
-  services = ss i;
-  modules = take b.before (ms i);
-  ports = b.ports.now;
-  statements = referred b.statements;
-  implements = referred b.implements;
-}
+      bundles = bs i;
+      services = ss i;
+      modules = take b.before (ms i);
+      ports = b.ports.now;
+      statements = referred b.statements;
+      implements = referred b.implements;
+    }
 
 wrong_are : (declarations : List Declaration) (d : Declared) → AreDeclared declarations d → (b : Body) → scope_directions (scope_of declarations b) ≡ body_wrong d b
 wrong_are declarations d are b =
@@ -136,3 +137,22 @@ pub reports_directions : (declarations : List Declaration) (top : Top) (d : Decl
 reports_directions declarations top d bodies first are_declared are e =
     let places : flat_map scope_directions (scopes declarations top) ≡ flat_map (body_wrong d) bodies = of_bodies scope_directions (body_wrong d) declarations top bodies are (wrong_are declarations d are_declared) in
     subst (Reports (BreaksDirections (scopes declarations top))) (ap least places ∙ sym e) (least_reports (flat_map scope_directions (scopes declarations top)))
+
+-- ---- names that are not declared
+
+undeclared_are : (declarations : List Declaration) (d : Declared) → AreDeclared declarations d → (b : Body) → scope_undeclared (scope_of declarations b) ≡ body_undeclared d b
+undeclared_are declarations d are b =
+    ap scope_undeclared (same_scope declarations d b are)
+    ∙ (λ i. flat_map_of_map (statement_undeclared (scope_in d b)) (λ (s : Bor Statement). s.now) b.statements i
+    ++ flat_map_of_map (implement_undeclared d.services) (λ (n : Bor Name). n.now) b.implements i)
+
+pub reports_undeclared : (declarations : List Declaration) (top : Top) (d : Declared) (bodies : List Body) (first : Option ℕ) → AreDeclared declarations d → AreBodies declarations top bodies
+    → first ≡ least (flat_map (service_undeclared d.bundles) d.services ++ flat_map (body_undeclared d) bodies)
+    → Reports (BreaksUndeclared (bundles_of declarations) (services_of declarations) (scopes declarations top)) first
+reports_undeclared declarations top d bodies first are_declared are e =
+    let all = undeclared_places (bundles_of declarations) (services_of declarations) (scopes declarations top) in
+    let inner : flat_map scope_undeclared (scopes declarations top) ≡ flat_map (body_undeclared d) bodies = of_bodies scope_undeclared (body_undeclared d) declarations top bodies are (undeclared_are declarations d are_declared) in
+    let bs = sym are_declared.bundles_are in
+    let ss = sym are_declared.services_are in
+    let places : all ≡ flat_map (service_undeclared d.bundles) d.services ++ flat_map (body_undeclared d) bodies = λ i. flat_map (service_undeclared (bs i)) (ss i) ++ inner i in
+    subst (Reports (BreaksUndeclared (bundles_of declarations) (services_of declarations) (scopes declarations top))) (ap least places ∙ sym e) (least_reports all)

@@ -68,6 +68,7 @@ any_missing {A} g at used (x ∷ xs) first = tested (stands (g x) used) (any_mis
   where
     rest : List ℕ
     rest = missing used (map {A = A} {B = Occurrence} (λ y. record { label = g y; at = at }) xs)
+
     tested : (b : Bool) → least_from first rest ≡ least_from first (place_where (list_any (λ y. not (stands (g y) used)) xs) at)
         → least_from (earlier first at) rest ≡ least_from (earlier first at) (place_where (list_any (λ y. not (stands (g y) used)) xs) at) → (c : Bool)
         → least_from first ((if b then [] else at ∷ []) ++ rest) ≡ least_from first (place_where (not b || list_any (λ y. not (stands (g y) used)) xs) at)
@@ -154,24 +155,24 @@ body_least declarations d are b =
     let ports = map port_named b.ports.now in
     let known : map label_at (used_in scope) ≡ used = ap (map label_at) (used_of b) in
     let parts : missing used (ports ++ flat_map (declared_by scope) (referred sts)) ≡ flat_map (λ p. missing_one used (port_named p)) b.ports.now ++ flat_map (λ (s : Bor Statement). missing used (declared_by scope s.now)) sts =
-      missing-append used ports (flat_map (declared_by scope) (referred sts))
-      ∙ (λ i. missing-map used port_named b.ports.now i
-        ++ (missing-flat used (declared_by scope) (referred sts) ∙ flat_map_of_map (λ s. missing used (declared_by scope s)) (λ (s : Bor Statement). s.now) sts) i) in
+    missing-append used ports (flat_map (declared_by scope) (referred sts))
+    ∙ (λ i. missing-map used port_named b.ports.now i
+    ++ (missing-flat used (declared_by scope) (referred sts) ∙ flat_map_of_map (λ s. missing used (declared_by scope s)) (λ (s : Bor Statement). s.now) sts) i) in
     let binds : flat_map due_missing (flat_map (binds_due scope) (referred sts)) ≡ flat_map (λ (s : Bor Statement). flat_map due_missing (binds_due scope s.now)) sts =
-      flat_map_flat due_missing (binds_due scope) (referred sts) ∙ flat_map_of_map (λ s. flat_map due_missing (binds_due scope s)) (λ (s : Bor Statement). s.now) sts in
+    flat_map_flat due_missing (binds_due scope) (referred sts) ∙ flat_map_of_map (λ s. flat_map due_missing (binds_due scope s)) (λ (s : Bor Statement). s.now) sts in
     let a = flat_map (λ p. missing_one used (port_named p)) b.ports.now in
     let x = flat_map (λ (s : Bor Statement). missing used (declared_by scope s.now)) sts in
     let y = flat_map (λ (s : Bor Statement). flat_map due_missing (binds_due scope s.now)) sts in
     let p = flat_map (λ (s : Bor Statement). unused_by scope used s.now) sts in
     let q = flat_map (λ (s : Bor Statement). unbound_by scope s.now) sts in
     let lists : scope_missing (scope_of declarations b) ≡ a ++ (x ++ y) =
-      ap scope_missing (same_scope declarations d b are)
-      ∙ (λ i. missing (known i) (ports ++ flat_map (declared_by scope) (referred sts)) ++ flat_map due_missing (flat_map (binds_due scope) (referred sts)))
-      ∙ (λ i. parts i ++ binds i) ∙ append_assoc a x y in
+    ap scope_missing (same_scope declarations d b are)
+    ∙ (λ i. missing (known i) (ports ++ flat_map (declared_by scope) (referred sts)) ++ flat_map due_missing (flat_map (binds_due scope) (referred sts)))
+    ∙ (λ i. parts i ++ binds i) ∙ append_assoc a x y in
     let steps : SameLeast (a ++ (x ++ y)) (a ++ (p ++ q)) =
-      same_parts a a (x ++ y) (p ++ q) (λ first. refl)
-      (same_parts x p y q (same_flat (λ (s : Bor Statement). missing used (declared_by scope s.now)) (λ (s : Bor Statement). unused_by scope used s.now) sts (λ s. declared_unused scope used s.now))
-      (same_flat (λ (s : Bor Statement). flat_map due_missing (binds_due scope s.now)) (λ (s : Bor Statement). unbound_by scope s.now) sts (λ s. due_unbound scope s.now))) in
+    same_parts a a (x ++ y) (p ++ q) (λ first. refl)
+    (same_parts x p y q (same_flat (λ (s : Bor Statement). missing used (declared_by scope s.now)) (λ (s : Bor Statement). unused_by scope used s.now) sts (λ s. declared_unused scope used s.now))
+    (same_flat (λ (s : Bor Statement). flat_map due_missing (binds_due scope s.now)) (λ (s : Bor Statement). unbound_by scope s.now) sts (λ s. due_unbound scope s.now))) in
     λ first. ap (least_from first) lists ∙ steps first
 
 -- ---- the rule
@@ -193,5 +194,5 @@ reports_unused declarations top d bodies first are_declared are e =
     let all = scopes declarations top in
     let lists : flat_map scope_missing all ≡ flat_map (λ b. scope_missing (scope_of declarations b)) bodies = ap (flat_map scope_missing) (sym are) ∙ flat_map_of_map scope_missing (scope_of declarations) bodies in
     let same : least (flat_map scope_missing all) ≡ least (flat_map (body_unused d) bodies) =
-      ap least lists ∙ same_flat (λ b. scope_missing (scope_of declarations b)) (body_unused d) bodies (body_least declarations d are_declared) None in
+    ap least lists ∙ same_flat (λ b. scope_missing (scope_of declarations b)) (body_unused d) bodies (body_least declarations d are_declared) None in
     subst (Reports (BreaksUnused all)) (same ∙ sym e) (least_tells (BreaksUnused all) (flat_map scope_missing all) (unused_sound all) (unused_complete all))

@@ -1,9 +1,13 @@
 -- The variables of an expression that are none of the known ones, at each kind of expression.
-use Rattle.std.proofs.Common.{◌≡◌, ℕ, List, [], ◌∷◌, ◌++◌, map, refl, ap, sym, ◌∙◌}
+use Rattle.std.proofs.Common.{◌≡◌, ℕ, zero, suc, ◌<◌, ◌≤◌, Bool, true, ◌||◌, List, [], ◌∷◌, ◌++◌, length, get_or, take, map, refl, ap, sym, ◌∙◌, arith}
 use Rattle.std.specs.Prelude.{Option, if◌then◌else◌}
-use Rattle.std.specs.List.{flat_map}
+use Rattle.std.specs.List.{flat_map, list_any}
+use Rattle.std.specs.Borrow.{Bor}
+use Rattle.std.proofs.lemmas.Bool.{or_left, or_right}
+use Rattle.check_rules.specs.Scopes.{is_name}
+use Rattle.design_names.specs.Bodies.{referred}
 use Rattle.std.proofs.lemmas.Grind.{flat_map-append}
-use Rattle.std.proofs.lemmas.List.{append-nil}
+use Rattle.std.proofs.lemmas.List.{append-nil, take_all}
 use Rattle.channel_types.specs.declared.esi_type.EsiType.{EsiType}
 use Rattle.design_tree.specs.declared.leaves.Name.{Name}
 use Rattle.design_tree.specs.declared.leaves.Number.{Number}
@@ -61,8 +65,8 @@ pub binary_step : (known : List Name) (first : Option ℕ) (at : ℕ) (operator 
 binary_step known first at operator left right =
     sym (least_from-append first (expression_undeclared known left) (expression_undeclared known right))
     ∙ ap (least_from first) (sym (at_names known (E.Binary at operator left right) (variables_of left ++ variables_of right)
-      (ap variables_of (sym (rolls-Binary at operator left right)) ∙ fold-roll-Expression (List Name) variables_step (Expression-F.Binary at operator left right))
-      ∙ flat_map-append (unknown known) (variables_of left) (variables_of right)))
+    (ap variables_of (sym (rolls-Binary at operator left right)) ∙ fold-roll-Expression (List Name) variables_step (Expression-F.Binary at operator left right))
+    ∙ flat_map-append (unknown known) (variables_of left) (variables_of right)))
 
 pub mux_step : (known : List Name) (first : Option ℕ) (at : ℕ) (c a b : Expression)
     → least_from (least_from (least_from first (expression_undeclared known c)) (expression_undeclared known a)) (expression_undeclared known b) ≡ least_from first (expression_undeclared known (E.Mux at c a b))
@@ -72,5 +76,26 @@ mux_step known first at c a b =
     let z = expression_undeclared known b in
     ap (λ o. least_from o z) (sym (least_from-append first x y)) ∙ sym (least_from-append first (x ++ y) z)
     ∙ ap (least_from first) (sym (at_names known (E.Mux at c a b) (variables_of c ++ variables_of a ++ variables_of b)
-      (ap variables_of (sym (rolls-Mux at c a b)) ∙ fold-roll-Expression (List Name) variables_step (Expression-F.Mux at c a b))
-      ∙ flat_map-append (unknown known) (variables_of c ++ variables_of a) (variables_of b) ∙ ap (λ l. l ++ z) (flat_map-append (unknown known) (variables_of c) (variables_of a))))
+    (ap variables_of (sym (rolls-Mux at c a b)) ∙ fold-roll-Expression (List Name) variables_step (Expression-F.Mux at c a b))
+    ∙ flat_map-append (unknown known) (variables_of c ++ variables_of a) (variables_of b) ∙ ap (λ l. l ++ z) (flat_map-append (unknown known) (variables_of c) (variables_of a))))
+
+-- the end of the walk over the parts of a `make`
+pub make_done : (known : List Name) (first place : Option ℕ) (at : ℕ) (ty : EsiType) (parts items : List Expression) (i : ℕ) (e : Expression) → e ≡ E.Make at ty parts → items ≡ parts → length items ≤ i
+    → place ≡ least_from first (flat_map (expression_undeclared known) (take i items)) → place ≡ least_from first (expression_undeclared known e)
+make_done known first place at ty parts items i e is same past walked =
+    walked ∙ ap (λ l. least_from first (flat_map (expression_undeclared known) l)) (take_all i items past ∙ same) ∙ ap (least_from first) (make_step known at ty parts)
+    ∙ ap (λ x. least_from first (expression_undeclared known x)) (sym is)
+
+-- ---- whether a name is known
+
+any_at : {A : Type 0} (test : A → Bool) (xs : List A) (i : ℕ) (x : A) → i < length xs → x ≡ get_or xs i x → test x ≡ true → list_any test xs ≡ true
+any_at test [] i x within is passes = absurd (omega arith)
+any_at test (y ∷ ys) zero x within is passes = or_left (test y) (list_any test ys) (ap test (sym is) ∙ passes)
+any_at test (y ∷ ys) (suc i) x within is passes = or_right (test y) (list_any test ys) (any_at test ys i x (omega arith) is passes)
+
+any_referred : (name : Name) (known : List (Bor Name)) → is_among name (referred known) ≡ list_any (λ r. is_name name r.now) known
+any_referred name [] = refl
+any_referred name (r ∷ rs) = ap (λ b. is_name name r.now || b) (any_referred name rs)
+
+pub known_at : (name : Name) (known : List (Bor Name)) (i : ℕ) (r : Bor Name) → i < length known → r ≡ get_or known i r → is_name name r.now ≡ true → true ≡ is_among name (referred known)
+known_at name known i r within is passes = sym (any_referred name known ∙ any_at (λ x. is_name name x.now) known i r within is passes)

@@ -67,11 +67,7 @@ fn add_modules<'a>(
 }
 
 /// The body of a module.
-fn module_body<'a>(
-    alloc: Global,
-    before: usize,
-    source: &'a Module,
-) -> Result<Body<'a>, NoMemory>
+fn module_body<'a>(alloc: Global, before: usize, source: &'a Module) -> Result<Body<'a>, NoMemory>
     ensures { IfOk result (IsBody before source.now.ports source.now.body []) }
 {
     let mut statements = List::new(alloc);

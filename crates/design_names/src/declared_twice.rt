@@ -267,7 +267,9 @@ fn repeat_in_operation(
 {
     match operation {
         Operation::Scan {
-            state, variable, ..
+            state,
+            variable,
+            ..
         } => first_repeat(alloc, first, &[name_mark(state), name_mark(variable)]),
         Operation::Stage(_)
         | Operation::Fork(_)

@@ -3,6 +3,8 @@ ghost use Rattle.std.specs.Prelude.{◌≡◌, IfOk};
 ghost use Rattle.name_tables.specs.FirstPlaces.{Reports};
 ghost use Rattle.check_rules.specs.DeclaredTwice.{BreaksDeclaredTwice};
 ghost use Rattle.check_rules.specs.Counts.{BreaksCounts};
+ghost use Rattle.check_rules.specs.Scopes.{bundles_of, services_of};
+ghost use Rattle.check_rules.specs.Undeclared.{BreaksUndeclared};
 ghost use Rattle.check_rules.specs.Directions.{BreaksDirections};
 ghost use Rattle.check_rules.specs.Uses.{BreaksUsedTwice, BreaksUnused};
 ghost use Rattle.design_names.specs.Bodies.{DesignText, bodies_in, text_of};
@@ -13,6 +15,7 @@ use crate::counts::first_count;
 use crate::declared::Declared;
 use crate::declared_twice::first_declared_twice;
 use crate::directions::first_direction;
+use crate::undeclared::first_undeclared;
 use crate::unused::first_unused;
 use crate::used_twice::first_used_twice;
 use design_tree::{Declaration, Top};
@@ -101,5 +104,12 @@ impl<'a> DesignNames<'a> {
         ensures { IfOk result (Reports (BreaksUnused (bodies_in self.now))) }
     {
         first_unused(alloc, &self.declared, self.bodies.as_slice())
+    }
+
+    /// The first place of a name that is looked up and not declared. It takes time in n log n.
+    pub fn first_undeclared(&self, alloc: Global) -> Result<Option<usize>, NoMemory>
+        ensures { IfOk result (Reports (BreaksUndeclared (bundles_of self.now.declarations) (services_of self.now.declarations) (bodies_in self.now))) }
+    {
+        first_undeclared(alloc, &self.declared, self.bodies.as_slice())
     }
 }

@@ -46,11 +46,7 @@ fn wrong_in_body<'a>(
         body,
         names: &names,
     };
-    Ok(wrong_in_statements(
-        first,
-        &scope,
-        body.statements.as_slice(),
-    ))
+    Ok(wrong_in_statements(first, &scope, body.statements.as_slice()))
 }
 
 #[tactic(auto, using(crate::proofs::Walks::least_more))]
@@ -163,10 +159,7 @@ fn is_source(referent: Referent) -> bool
     ensures { result ≡ source_test referent }
 {
     match referent {
-        Referent::InPort
-        | Referent::Channel
-        | Referent::ToHardware
-        | Referent::InstanceOut => true,
+        Referent::InPort | Referent::Channel | Referent::ToHardware | Referent::InstanceOut => true,
         Referent::OutPort | Referent::FromHardware | Referent::InstanceIn => false,
     }
 }

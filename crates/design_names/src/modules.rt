@@ -6,7 +6,7 @@ ghost use Rattle.design_names.specs.Tables.{module_label, port_label};
 
 use crate::keys::name_key;
 use crate::lookup::{at, at_below};
-use design_tree::{Module, Declaration, ModulePort, Name};
+use design_tree::{Declaration, Module, ModulePort, Name};
 use esi_base::{List, NoMemory};
 use name_tables::{Key, NameTable};
 use std::alloc::Global;

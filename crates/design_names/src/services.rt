@@ -6,7 +6,7 @@ ghost use Rattle.design_names.specs.Tables.{service_label, service_port_label};
 
 use crate::keys::name_key;
 use crate::lookup::at;
-use design_tree::{Service, Declaration, ServicePort, Name};
+use design_tree::{Declaration, Name, Service, ServicePort};
 use esi_base::{List, NoMemory};
 use name_tables::{Key, NameTable};
 use std::alloc::Global;

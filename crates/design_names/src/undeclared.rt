@@ -35,10 +35,7 @@ pub fn first_undeclared<'a>(
 }
 
 #[tactic(auto, using(crate::proofs::Walks::least_more, crate::proofs::Walks::least_item))]
-fn undeclared_in_services<'a>(
-    bundles: &Bundles<'a>,
-    services: &[ServiceNames<'a>],
-) -> Option<usize>
+fn undeclared_in_services<'a>(bundles: &Bundles<'a>, services: &[ServiceNames<'a>]) -> Option<usize>
     ensures { result ≡ least (flat_map (service_undeclared bundles.now) services.now) }
 {
     let mut place = None;
@@ -120,11 +117,7 @@ fn undeclared_in_body<'a>(
         names: &names,
     };
     let place = undeclared_in_statements(first, &scope, body.statements.as_slice());
-    Ok(undeclared_implements(
-        place,
-        &declared.services,
-        body.implements.as_slice(),
-    ))
+    Ok(undeclared_implements(place, &declared.services, body.implements.as_slice()))
 }
 
 #[tactic(auto, using(crate::proofs::Walks::least_more))]

@@ -57,10 +57,7 @@ fn unused_in_body<'a>(
 }
 
 /// The names that the references of a body are written with.
-fn used_names<'a>(
-    alloc: Global,
-    statements: &[&'a Statement],
-) -> Result<NameTable<'a>, NoMemory>
+fn used_names<'a>(alloc: Global, statements: &[&'a Statement]) -> Result<NameTable<'a>, NoMemory>
     ensures { IfOk result (λ table. table ≡ used_labels statements.now) }
 {
     let mut marks = List::new(alloc);
@@ -95,11 +92,7 @@ fn unused_ports<'a>(
 }
 
 #[tactic(auto, using(crate::proofs::Walks::least_more, crate::proofs::Walks::least_item))]
-fn unused_names<'a>(
-    first: Option<usize>,
-    used: &NameTable<'a>,
-    names: &'a [Name],
-) -> Option<usize>
+fn unused_names<'a>(first: Option<usize>, used: &NameTable<'a>, names: &'a [Name]) -> Option<usize>
     ensures { result ≡ least_from first (flat_map (λ n. missing_one used.now (named n)) names.now) }
 {
     let mut place = first;
@@ -110,11 +103,7 @@ fn unused_names<'a>(
 }
 
 /// With the place of a name, if it is not used.
-fn unused_name<'a>(
-    first: Option<usize>,
-    used: &NameTable<'a>,
-    name: &'a Name,
-) -> Option<usize>
+fn unused_name<'a>(first: Option<usize>, used: &NameTable<'a>, name: &'a Name) -> Option<usize>
     ensures { result ≡ least_from first (missing_one used.now (named name.now)) }
 {
     if used.contains(&name_key(name)) {
@@ -197,11 +186,7 @@ fn lacks_member<'a>(
     }
 }
 
-fn lacks_one_member<'a>(
-    used: &NameTable<'a>,
-    id: &'a ApplicationId,
-    members: &'a [Member],
-) -> bool
+fn lacks_one_member<'a>(used: &NameTable<'a>, id: &'a ApplicationId, members: &'a [Member]) -> bool
     ensures { result ≡ list_any (λ m. not (stands (part_label id.now m.name) used.now)) members.now }
 {
     for member in members {
@@ -226,11 +211,7 @@ fn lacks_out<'a>(
     }
 }
 
-fn lacks_one_out<'a>(
-    used: &NameTable<'a>,
-    id: &'a ApplicationId,
-    ports: &'a [ModulePort],
-) -> bool
+fn lacks_one_out<'a>(used: &NameTable<'a>, id: &'a ApplicationId, ports: &'a [ModulePort]) -> bool
     ensures { result ≡ outs_unused used.now id.now ports.now }
 {
     for port in ports {

@@ -15,10 +15,7 @@ use name_tables::{Mark, first_repeat};
 use std::alloc::Global;
 
 /// The least place at which something is used, driven or bound that was so before.
-pub fn first_used_twice(
-    alloc: Global,
-    bodies: &[Body<'_>],
-) -> Result<Option<usize>, NoMemory>
+pub fn first_used_twice(alloc: Global, bodies: &[Body<'_>]) -> Result<Option<usize>, NoMemory>
     ensures { IfOk result (λ first. first ≡ least (flat_map body_uses bodies.now)) }
 {
     let mut place = None;

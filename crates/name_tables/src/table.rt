@@ -58,10 +58,7 @@ impl<'a> NameTable<'a> {
 }
 
 /// The index at which each of the names stands first.
-fn indices_of<'a>(
-    alloc: Global,
-    names: &[Key<'a>],
-) -> Result<BTreeMap<Key<'a>, usize>, NoMemory>
+fn indices_of<'a>(alloc: Global, names: &[Key<'a>]) -> Result<BTreeMap<Key<'a>, usize>, NoMemory>
     ensures { IfOk result (λ indices. IsTable indices names.now) }
 {
     let mut indices = BTreeMap::new(alloc);
