@@ -1,10 +1,5 @@
 pub mod Walks
-pub mod BodyLists
-pub mod Flat
 pub mod RuleLaws
-pub mod Finding
-pub mod Found
-pub mod Resolved
 pub mod ReferenceSteps
 pub mod UnusedSteps
 pub mod VariableSteps

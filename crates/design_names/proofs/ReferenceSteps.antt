@@ -19,11 +19,11 @@ use Rattle.check_rules.specs.References.{operation_sources, reference_place, res
 use Rattle.check_rules.specs.Directions.{is_sink, unless, ports_of, statement_directions}
 use Rattle.check_rules.specs.Undeclared.{references_undeclared, statement_undeclared}
 use Rattle.design_names.specs.ReferencePlaces.{wrong_source, binding_wrong, binding_out, reference_undeclared, binding_undeclared, implement_undeclared, body_undeclared}
-use Rattle.design_names.specs.declared.body.Body.{Body}
-use Rattle.design_names.specs.declared.declared.Declared.{Declared}
-use Rattle.design_names.specs.Resolving.{scope_in}
+use Rattle.design_scopes.specs.declared.body.Body.{Body}
+use Rattle.design_scopes.specs.declared.declared.Declared.{Declared}
+use Rattle.design_scopes.specs.Resolving.{scope_in}
 use Rattle.std.specs.Borrow.{Bor}
-use Rattle.design_names.proofs.Flat.{flat_map_of_map}
+use Rattle.design_scopes.specs.Flat.{flat_map_of_map}
 
 -- ---- the sources of an operation
 

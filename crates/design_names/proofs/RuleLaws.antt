@@ -22,13 +22,13 @@ use Rattle.check_rules.specs.DeclaredTwice.{declaration_named, declaration_space
 use Rattle.check_rules.specs.Counts.{statement_counts, scope_counts, BreaksCounts}
 use Rattle.check_rules.specs.Directions.{statement_directions, scope_directions, BreaksDirections}
 use Rattle.check_rules.specs.Uses.{bound_in, used_in, scope_uses, BreaksUsedTwice}
-use Rattle.design_names.specs.declared.body.Body.{Body}
-use Rattle.design_names.specs.declared.declared.Declared.{Declared}
-use Rattle.design_names.specs.Resolving.{scope_in, AreDeclared}
+use Rattle.design_scopes.specs.declared.body.Body.{Body}
+use Rattle.design_scopes.specs.declared.declared.Declared.{Declared}
+use Rattle.design_scopes.specs.Resolving.{scope_in, AreDeclared}
 use Rattle.design_names.specs.ReferencePlaces.{body_wrong, implement_undeclared, body_undeclared}
-use Rattle.design_names.specs.Bodies.{referred, scope_of, AreBodies}
+use Rattle.design_scopes.specs.Bodies.{referred, scope_of, AreBodies}
 use Rattle.design_names.specs.Places.{repeats_in, declaration_repeats, statement_repeats, own_named, body_ids, body_repeats, body_counts, binding_used, statement_used, body_used, statement_bound, body_uses}
-use Rattle.design_names.proofs.Flat.{flat_map_flat, map_flat, flat_map_of_map, map_of_map, flat_map_same, contains_flat, flat_contains}
+use Rattle.design_scopes.specs.Flat.{flat_map_flat, map_flat, flat_map_of_map, map_of_map, flat_map_same, contains_flat, flat_contains}
 
 now_of : Bor Statement → Statement
 now_of s = s.now

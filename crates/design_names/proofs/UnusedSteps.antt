@@ -24,14 +24,14 @@ use Rattle.check_rules.specs.References.{named, part_label, reference_named, ref
 use Rattle.check_rules.specs.DeclaredTwice.{port_named}
 use Rattle.check_rules.specs.Directions.{ports_of}
 use Rattle.check_rules.specs.Uses.{is_out, is_in, members_of, part_at, declared_by, due_in, binds_due, scope_due, used_in, Due, BreaksUnused}
-use Rattle.design_names.specs.declared.body.Body.{Body}
-use Rattle.design_names.specs.declared.declared.Declared.{Declared}
-use Rattle.design_names.specs.Bodies.{referred, scope_of, AreBodies}
-use Rattle.design_names.specs.Tables.{port_label}
+use Rattle.design_scopes.specs.declared.body.Body.{Body}
+use Rattle.design_scopes.specs.declared.declared.Declared.{Declared}
+use Rattle.design_scopes.specs.Bodies.{referred, scope_of, AreBodies}
+use Rattle.design_scopes.specs.Tables.{port_label}
 use Rattle.design_names.specs.Places.{statement_used, body_used}
-use Rattle.design_names.specs.Resolving.{scope_in, AreDeclared}
+use Rattle.design_scopes.specs.Resolving.{scope_in, AreDeclared}
 use Rattle.design_names.specs.UnusedPlaces.{missing_one, members_unused, outs_unused, ins_unbound, binding_label, place_where, unused_by, unbound_by, used_labels, body_unused}
-use Rattle.design_names.proofs.Flat.{flat_map_flat, map_flat, flat_map_of_map, map_of_map, flat_map_same, contains_flat, flat_contains, IsOf}
+use Rattle.design_scopes.specs.Flat.{flat_map_flat, map_flat, flat_map_of_map, map_of_map, flat_map_same, contains_flat, flat_contains, IsOf}
 use Rattle.design_names.proofs.Walks.{least_three}
 use Rattle.design_names.proofs.RuleLaws.{used_of, same_scope}
 

@@ -5,7 +5,7 @@ use Rattle.std.specs.List.{flat_map, list_any}
 use Rattle.std.specs.Borrow.{Bor}
 use Rattle.std.proofs.lemmas.Bool.{or_left, or_right}
 use Rattle.check_rules.specs.Scopes.{is_name}
-use Rattle.design_names.specs.Bodies.{referred}
+use Rattle.design_scopes.specs.Bodies.{referred}
 use Rattle.std.proofs.lemmas.Grind.{flat_map-append}
 use Rattle.std.proofs.lemmas.List.{append-nil, take_all}
 use Rattle.channel_types.specs.declared.esi_type.EsiType.{EsiType}
@@ -22,7 +22,7 @@ use Rattle.name_tables.specs.FirstPlaces.{least_from}
 use Rattle.name_tables.specs.PlaceLaws.{least_from-append}
 use Rattle.check_rules.specs.References.{is_among}
 use Rattle.check_rules.specs.Undeclared.{variables_step, variables_of, expression_undeclared}
-use Rattle.design_names.proofs.Flat.{flat_map_flat, flat_map_of_map}
+use Rattle.design_scopes.specs.Flat.{flat_map_flat, flat_map_of_map}
 
 -- where a name is none of the known ones
 abbrev unknown : List Name → Name → List ℕ

@@ -11,7 +11,7 @@ use Rattle.check_rules.specs.References.{named, channels_of, operation_sources, 
 use Rattle.check_rules.specs.DeclaredTwice.{declaration_named, declaration_spaces, statement_spaces, port_named, ids_of}
 use Rattle.check_rules.specs.Counts.{statement_counts}
 use Rattle.check_rules.specs.Uses.{bound_in}
-use Rattle.design_names.specs.declared.body.Body.{Body}
+use Rattle.design_scopes.specs.declared.body.Body.{Body}
 
 -- ---- names that are declared twice
 

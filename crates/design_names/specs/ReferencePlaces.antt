@@ -12,9 +12,9 @@ use Rattle.check_rules.specs.Scopes.{Scope, find_port, find_service, find_bundle
 use Rattle.check_rules.specs.References.{reference_place, resolve}
 use Rattle.check_rules.specs.Directions.{is_source, unless, bound_out, statement_directions}
 use Rattle.check_rules.specs.Undeclared.{undeclared_in, statement_undeclared, look_up, no_more}
-use Rattle.design_names.specs.declared.body.Body.{Body}
-use Rattle.design_names.specs.declared.declared.Declared.{Declared}
-use Rattle.design_names.specs.Resolving.{scope_in}
+use Rattle.design_scopes.specs.declared.body.Body.{Body}
+use Rattle.design_scopes.specs.declared.declared.Declared.{Declared}
+use Rattle.design_scopes.specs.Resolving.{scope_in}
 
 -- ---- references that go the wrong way
 

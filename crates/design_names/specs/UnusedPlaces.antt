@@ -16,11 +16,11 @@ use Rattle.check_rules.specs.References.{named, part_label}
 use Rattle.check_rules.specs.DeclaredTwice.{port_named}
 use Rattle.check_rules.specs.Directions.{ports_of}
 use Rattle.check_rules.specs.Uses.{is_out, is_in, members_of}
-use Rattle.design_names.specs.declared.body.Body.{Body}
-use Rattle.design_names.specs.declared.declared.Declared.{Declared}
-use Rattle.design_names.specs.Tables.{port_label, name_label}
+use Rattle.design_scopes.specs.declared.body.Body.{Body}
+use Rattle.design_scopes.specs.declared.declared.Declared.{Declared}
+use Rattle.design_scopes.specs.Tables.{port_label, name_label}
 use Rattle.design_names.specs.Places.{statement_used}
-use Rattle.design_names.specs.Resolving.{scope_in}
+use Rattle.design_scopes.specs.Resolving.{scope_in}
 
 -- the place of a name, if it is none of the known ones
 abbrev pub missing_one : List Label → Occurrence → List ℕ

@@ -4,8 +4,8 @@ ghost use Rattle.name_tables.specs.FirstPlaces.{least, least_from};
 ghost use Rattle.check_rules.specs.Counts.{outside, statement_counts, operation_counts};
 ghost use Rattle.design_names.specs.Places.{body_counts};
 
-use crate::body::Body;
 use check_rules::{MAX_BRANCHES, MAX_DEPTH, MAX_STAGES, MIN_BRANCHES, MIN_DEPTH, MIN_STAGES};
+use design_scopes::body::Body;
 use design_tree::{Number, Operation, Statement};
 use name_tables::earlier;
 

@@ -5,11 +5,11 @@ ghost use Rattle.name_tables.specs.Lists.{repeats};
 ghost use Rattle.name_tables.specs.Keys.{occurrence_of};
 ghost use Rattle.check_rules.specs.References.{named, channels_of};
 ghost use Rattle.check_rules.specs.DeclaredTwice.{declaration_named, member_named, service_port_named, port_named, ids_of, operation_spaces};
-ghost use Rattle.design_names.specs.Bodies.{referred};
+ghost use Rattle.design_scopes.specs.Bodies.{referred};
 ghost use Rattle.design_names.specs.Places.{repeats_in, declaration_repeats, statement_repeats, body_repeats, own_named, body_ids};
 
-use crate::body::Body;
-use crate::keys::{declaration_mark, id_mark, name_mark};
+use design_scopes::body::Body;
+use design_scopes::keys::{declaration_mark, id_mark, name_mark};
 use design_tree::{Declaration, Member, ModulePort, Name, Operation, ServicePort, Statement};
 use esi_base::{List, NoMemory};
 use name_tables::{Mark, first_repeat};

@@ -7,17 +7,17 @@ ghost use Rattle.check_rules.specs.Scopes.{bundles_of, services_of};
 ghost use Rattle.check_rules.specs.Undeclared.{BreaksUndeclared};
 ghost use Rattle.check_rules.specs.Directions.{BreaksDirections};
 ghost use Rattle.check_rules.specs.Uses.{BreaksUsedTwice, BreaksUnused};
-ghost use Rattle.design_names.specs.Bodies.{DesignText, bodies_in, text_of};
+ghost use Rattle.design_scopes.specs.Bodies.{DesignText, bodies_in, text_of};
 
-use crate::bodies::bodies_of;
-use crate::body::Body;
 use crate::counts::first_count;
-use crate::declared::Declared;
 use crate::declared_twice::first_declared_twice;
 use crate::directions::first_direction;
 use crate::undeclared::first_undeclared;
 use crate::unused::first_unused;
 use crate::used_twice::first_used_twice;
+use design_scopes::bodies::bodies_of;
+use design_scopes::body::Body;
+use design_scopes::declared::Declared;
 use design_tree::{Declaration, Top};
 use esi_base::{List, NoMemory};
 use std::alloc::Global;
@@ -34,8 +34,8 @@ pub struct DesignNames<'a> {
 }
 
 impl<'a> Model for DesignNames<'a> {
-    ghost use Rattle.design_names.specs.Bodies.{DesignText, text_of};
-    ghost use Rattle.design_names.specs.Resolving.{AreTables};
+    ghost use Rattle.design_scopes.specs.Bodies.{DesignText, text_of};
+    ghost use Rattle.design_scopes.specs.Resolving.{AreTables};
     ghost use Rattle.channel_types.specs.contracts.esi_type.EsiType as ty;
     ghost use Rattle.design_tree.specs.contracts.expression.Expression as expression;
     ghost use Rattle.std.specs.Coded.{codes};

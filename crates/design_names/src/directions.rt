@@ -5,13 +5,13 @@ ghost use Rattle.check_rules.specs.References.{reference_place, operation_source
 ghost use Rattle.check_rules.specs.Directions.{is_source as source_test, is_sink as sink_test, unless, bound_out, ports_of, statement_directions};
 ghost use Rattle.design_names.specs.ReferencePlaces.{wrong_source, binding_wrong, binding_out, body_wrong};
 
-use crate::body::Body;
-use crate::body_names::BodyNames;
-use crate::declared::Declared;
-use crate::modules::ModuleNames;
-use crate::operation_sources::operation_sources;
-use crate::scope_names::ScopeNames;
 use check_rules::{Referent, Resolution};
+use design_scopes::body::Body;
+use design_scopes::body_names::BodyNames;
+use design_scopes::declared::Declared;
+use design_scopes::modules::ModuleNames;
+use design_scopes::operation_sources::operation_sources;
+use design_scopes::scope_names::ScopeNames;
 use design_tree::{Binding, ModulePort, Operation, PortDirection, Reference, Statement};
 use esi_base::NoMemory;
 use name_tables::earlier;

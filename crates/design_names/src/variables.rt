@@ -3,7 +3,7 @@ ghost use Rattle.std.specs.Prelude.{◌≡◌, ◌∷◌, [], if◌then◌else�
 ghost use Rattle.name_tables.specs.FirstPlaces.{least_from};
 ghost use Rattle.check_rules.specs.References.{is_among};
 ghost use Rattle.check_rules.specs.Undeclared.{variables_undeclared, operation_undeclared, expression_undeclared as undeclared_by};
-ghost use Rattle.design_names.specs.Bodies.{referred};
+ghost use Rattle.design_scopes.specs.Bodies.{referred};
 
 use design_tree::{Expression, Name, Operation, Statement};
 use name_tables::earlier;

@@ -6,7 +6,7 @@ use Rattle.name_tables.specs.Labels.{label_at}
 use Rattle.name_tables.specs.Keys.{label_of, occurrence_of}
 use Rattle.check_rules.specs.References.{named, part_label}
 use Rattle.check_rules.specs.DeclaredTwice.{port_named}
-use Rattle.design_names.specs.Resolving.{scope_in}
+use Rattle.design_scopes.specs.Resolving.{scope_in}
 use Rattle.design_names.specs.UnusedPlaces.{missing_one, outs_unused, ins_unbound, binding_label, unused_by, unbound_by, body_unused}
 use Rattle.design_names.proofs.unused.keys_of.Given as goal
 

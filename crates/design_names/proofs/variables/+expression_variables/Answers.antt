@@ -1,4 +1,4 @@
-use Rattle.design_names.specs.Bodies.{referred}
+use Rattle.design_scopes.specs.Bodies.{referred}
 use Rattle.design_names.proofs.VariableSteps.{make_done}
 use Rattle.design_names.proofs.variables.+expression_variables.Goals as goal
 

@@ -2,7 +2,7 @@ use Rattle.std.proofs.Common.{◌≡◌, take}
 use Rattle.std.specs.List.{flat_map}
 use Rattle.name_tables.specs.FirstPlaces.{least_from}
 use Rattle.check_rules.specs.Undeclared.{expression_undeclared}
-use Rattle.design_names.specs.Bodies.{referred}
+use Rattle.design_scopes.specs.Bodies.{referred}
 use Rattle.design_names.proofs.variables.+expression_variables.Given as goal
 
 abbrev pub invariant-loop-part : goal.invariant-loop-part

@@ -1,6 +1,6 @@
 use Rattle.std.proofs.Common.{◌≡◌, false, take}
 use Rattle.check_rules.specs.References.{is_among}
-use Rattle.design_names.specs.Bodies.{referred}
+use Rattle.design_scopes.specs.Bodies.{referred}
 use Rattle.design_names.proofs.variables.is_known.Given as goal
 
 abbrev pub invariant-loop-other : goal.invariant-loop-other

@@ -6,7 +6,7 @@ use Rattle.name_tables.specs.FirstPlaces.{Reports, least}
 use Rattle.name_tables.specs.Lists.{repeats}
 use Rattle.check_rules.specs.DeclaredTwice.{declaration_named, BreaksDeclaredTwice}
 use Rattle.design_names.specs.Places.{declaration_repeats, body_repeats}
-use Rattle.design_names.specs.Bodies.{bodies_in}
+use Rattle.design_scopes.specs.Bodies.{bodies_in}
 use Rattle.design_names.proofs.RuleLaws.{reports_declared_twice}
 use Rattle.design_names.proofs.design_names.DesignNames.first_declared_twice.Goals as goal
 

@@ -5,7 +5,7 @@ use Rattle.design_names.proofs.Walks.{if_ok_then}
 use Rattle.name_tables.specs.FirstPlaces.{Reports, least}
 use Rattle.check_rules.specs.Directions.{BreaksDirections}
 use Rattle.design_names.specs.ReferencePlaces.{body_wrong}
-use Rattle.design_names.specs.Bodies.{bodies_in}
+use Rattle.design_scopes.specs.Bodies.{bodies_in}
 use Rattle.design_names.proofs.RuleLaws.{reports_directions}
 use Rattle.design_names.proofs.design_names.DesignNames.first_direction.Goals as goal
 

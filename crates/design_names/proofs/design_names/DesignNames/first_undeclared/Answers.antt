@@ -6,7 +6,7 @@ use Rattle.name_tables.specs.FirstPlaces.{Reports, least}
 use Rattle.check_rules.specs.Scopes.{bundles_of, services_of}
 use Rattle.check_rules.specs.Undeclared.{service_undeclared, BreaksUndeclared}
 use Rattle.design_names.specs.ReferencePlaces.{body_undeclared}
-use Rattle.design_names.specs.Bodies.{bodies_in}
+use Rattle.design_scopes.specs.Bodies.{bodies_in}
 use Rattle.design_names.proofs.RuleLaws.{reports_undeclared}
 use Rattle.design_names.proofs.design_names.DesignNames.first_undeclared.Goals as goal
 

@@ -5,7 +5,7 @@ use Rattle.design_names.proofs.Walks.{if_ok_then}
 use Rattle.name_tables.specs.FirstPlaces.{Reports, least}
 use Rattle.check_rules.specs.Uses.{BreaksUnused}
 use Rattle.design_names.specs.UnusedPlaces.{body_unused}
-use Rattle.design_names.specs.Bodies.{bodies_in}
+use Rattle.design_scopes.specs.Bodies.{bodies_in}
 use Rattle.design_names.proofs.UnusedSteps.{reports_unused}
 use Rattle.design_names.proofs.design_names.DesignNames.first_unused.Goals as goal
 

@@ -6,7 +6,7 @@ use Rattle.name_tables.specs.FirstPlaces.{Reports, least}
 use Rattle.name_tables.specs.Lists.{repeats}
 use Rattle.check_rules.specs.Uses.{BreaksUsedTwice}
 use Rattle.design_names.specs.Places.{body_uses}
-use Rattle.design_names.specs.Bodies.{bodies_in}
+use Rattle.design_scopes.specs.Bodies.{bodies_in}
 use Rattle.design_names.proofs.RuleLaws.{reports_used_twice}
 use Rattle.design_names.proofs.design_names.DesignNames.first_used_twice.Goals as goal
 
