@@ -3,8 +3,12 @@
 //! those whose channels it takes.
 #![tactic(auto)]
 
+mod cycle;
 mod feeds;
+mod laws;
 mod order;
 mod worklist;
 
+pub use cycle::first_on_cycle;
+pub use laws::order_law;
 pub use order::element_order;
