@@ -1,2 +1,4 @@
 pub mod Counting
 pub mod Laid
+pub mod Totals
+pub mod Balances

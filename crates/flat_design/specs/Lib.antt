@@ -1,1 +1,3 @@
+pub mod FlatLaws
 pub mod Laying
+pub mod OnceLemmas

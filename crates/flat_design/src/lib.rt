@@ -4,9 +4,11 @@
 #![tactic(auto)]
 
 pub mod element;
+mod laws;
 mod laying;
 pub mod plan;
 
 pub use element::{Element, Flat};
+pub use laws::flat_law;
 pub use laying::flat_design;
 pub use plan::{Plan, Step};
