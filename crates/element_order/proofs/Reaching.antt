@@ -1,8 +1,8 @@
 -- A walk through what an element depends on, step by step.
-use Rattle.std.proofs.Common.{◌≡◌, ℕ, zero, suc, ◌+◌, ◌-◌, ◌<◌, ◌≤◌, Bool, true, false, not, List, [], ◌∷◌, ◌++◌, Option, Some, None, length, get_or, set, refl, ap, sym, ◌∙◌, subst, inl, inr, arith, eqb}
+use Rattle.std.proofs.Common.{◌≡◌, ℕ, zero, suc, ◌+◌, ◌-◌, ◌<◌, ◌≤◌, Bool, true, false, not, List, [], ◌∷◌, ◌++◌, Option, Some, None, length, get_or, set, take, drop, refl, ap, sym, ◌∙◌, subst, inl, inr, arith, eqb}
 use Rattle.std.specs.Prelude.{◌||◌, ◌⊎◌, ◌↔◌, if◌then◌else◌, All, IsTrue, replicate}
 use Rattle.std.proofs.lemmas.Bool.{false≢true, cases_eq, cases_Bool, cases_lt, or_cases, or_parts, eqb-true, eq-eqb, ne_eqb, or_left, or_right}
-use Rattle.std.proofs.lemmas.List.{length_push, length-set, get_or-set_same, get_or-set_other, get_or_past, get_or_default, length-replicate, get_or-replicate}
+use Rattle.std.proofs.lemmas.List.{take_more, take_all, take-append-drop, drop_more, length_push, length-set, get_or-set_same, get_or-set_other, get_or_past, get_or_default, length-replicate, get_or-replicate}
 use Rattle.std.proofs.lemmas.List.Elements.{All-head, All-tail, All-nil, All-get_or, All-push, All-from_get_or}
 use Rattle.element_order.specs.Orders.{AllBelow, among, needs_of, ordered}
 use Rattle.element_order.specs.Laws.{Depends, IsFirstOnCycle}
@@ -307,25 +307,27 @@ clear_more needs cleared x lt c not_itself = record {
       ];
 }
 
-pub marked_more : (cleared : List Bool) (x n : ℕ) → n ≡ length cleared → x < n → ((k : ℕ) → k < x → is_marked cleared k ≡ true) → (k : ℕ) → k < x + 1 → is_marked (set cleared x true) k ≡ true
-marked_more cleared x n count lt each k low =
-    set_marked cleared x k (omega (arith, count))
-    ∙ elim (cases_eq k x) [ inl is ↦ or_left (eqb k x) (is_marked cleared k) (eq-eqb k x is) | inr ne ↦ or_right (eqb k x) (is_marked cleared k) (each k (omega (arith, ne))) ]
+pub marked_more : (cleared : List Bool) (elements : List ℕ) (i n : ℕ) → n ≡ length cleared → i < length elements → AllBelow n elements → ((k : ℕ) → among k (take i elements) ≡ true → is_marked cleared k ≡ true)
+    → (k : ℕ) → among k (take (i + 1) elements) ≡ true → is_marked (set cleared (get_or elements i 0) true) k ≡ true
+marked_more cleared elements i n count lt low each k there =
+    let x = get_or elements i 0 in
+    let within : x < length cleared = let is = All-get_or (λ q. q < n) elements i 0 lt low in omega (arith, count) in
+    set_marked cleared x k within
+    ∙ elim (or_cases (among k (take i elements)) (eqb k x) (sym (among-push (take i elements) x k) ∙ sym (ap (among k) (take_more elements i 0 lt)) ∙ there)) [
+      | inl t ↦ or_right (eqb k x) (is_marked cleared k) (each k t)
+      | inr t ↦ or_left (eqb k x) (is_marked cleared k) t
+    ]
 
-pub first_found : (needs : List (List ℕ)) (cleared : List Bool) (x : ℕ) → x < length needs → AreClear needs cleared → ((k : ℕ) → k < x → is_marked cleared k ≡ true) → Depends needs x x → IsFirstOnCycle needs x
-first_found needs cleared x lt c before itself = record {
-  low = lt;
+pub first_found : (needs : List (List ℕ)) (cleared : List Bool) (elements : List ℕ) (i : ℕ) → i < length elements → AreClear needs cleared → ((k : ℕ) → among k (take i elements) ≡ true → is_marked cleared k ≡ true)
+    → Depends needs (get_or elements i 0) (get_or elements i 0) → IsFirstOnCycle needs elements (get_or elements i 0)
+first_found needs cleared elements i lt c before itself = record {
+  before = take i elements;
+  after = drop (i + 1) elements;
+  split = sym (take-append-drop i elements) ∙ ap (λ xs. take i elements ++ xs) (drop_more elements i 0 lt);
   itself = itself;
-  first = λ other d. elim (cases_lt other x) [ inl low ↦ absurd (c.each other (before other low) d) | inr ge ↦ ge ];
+  first = λ other there d. c.each other (before other there) d;
 }
 
-pub none_found : (needs : List (List ℕ)) (cleared : List Bool) (n : ℕ) → length needs ≤ n → AreClear needs cleared → ((k : ℕ) → k < n → is_marked cleared k ≡ true) → (other : ℕ) → Depends needs other other → ⊥
-none_found needs cleared n ge c before other d =
-    elim (cases_lt other (length needs)) [
-      | inl low ↦ c.each other (before other (omega arith)) d
-      | inr past ↦ nothing_past other other past d
-    ]
-  where
-    nothing_past : (i k : ℕ) → length needs ≤ i → Depends needs i k → ⊥
-    nothing_past _ _ past (direct i k h) = false≢true (ap (among k) (sym (get_or_past needs i [] past)) ∙ h)
-    nothing_past _ _ past (through i j k h e) = false≢true (ap (among j) (sym (get_or_past needs i [] past)) ∙ h)
+pub none_found : (needs : List (List ℕ)) (cleared : List Bool) (elements : List ℕ) (i : ℕ) → length elements ≤ i → AreClear needs cleared → ((k : ℕ) → among k (take i elements) ≡ true → is_marked cleared k ≡ true)
+    → (other : ℕ) → among other elements ≡ true → Depends needs other other → ⊥
+none_found needs cleared elements i ge c before other there = c.each other (before other (ap (among other) (take_all i elements ge) ∙ there))

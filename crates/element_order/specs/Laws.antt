@@ -1,5 +1,5 @@
 -- What the order is, and what follows from it.
-use Rattle.std.specs.Prelude.{◌≡◌, ℕ, ◌<◌, ◌≤◌, Bool, true, List, Option, Some, None, All, length, get_or, take, eqb}
+use Rattle.std.specs.Prelude.{◌≡◌, ℕ, ◌<◌, Bool, true, List, ◌∷◌, ◌++◌, Option, Some, None, All, length, get_or, take, eqb}
 use Rattle.std.specs.List.{IsDistinct}
 use Rattle.element_order.specs.Orders.{AllBelow, among, all_among, needs_of, next_ready, ordered}
 
@@ -39,13 +39,15 @@ AllOrders = (needs : List (List ℕ)) → All (AllBelow (length needs)) needs �
 abbrev pub OneOrder : Type 0
 OneOrder = (needs : List (List ℕ)) (placed other : List ℕ) → IsElementOrder needs placed → IsElementOrder needs other → placed ≡ other
 
--- The element depends on itself, and none before it does.
-pub record IsFirstOnCycle (needs : List (List ℕ)) (element : ℕ) : Type 0 where
-  pub low : element < length needs
+-- One of some elements depends on itself, and none that stands before it among them does.
+pub record IsFirstOnCycle (needs : List (List ℕ)) (elements : List ℕ) (element : ℕ) : Type 0 where
+  pub before : List ℕ
+  pub after : List ℕ
+  pub split : elements ≡ before ++ element ∷ after
   pub itself : Depends needs element element
-  pub first : (other : ℕ) → Depends needs other other → element ≤ other
+  pub first : (other : ℕ) → among other before ≡ true → Depends needs other other → ⊥
 
--- the first element that depends on itself, where there is one
-abbrev pub TellsFirst : List (List ℕ) → Option ℕ → Type 0
-TellsFirst needs None = (other : ℕ) → Depends needs other other → ⊥
-TellsFirst needs (Some element) = IsFirstOnCycle needs element
+-- the first of some elements that depends on itself, where one does
+abbrev pub TellsFirst : List (List ℕ) → List ℕ → Option ℕ → Type 0
+TellsFirst needs elements None = (other : ℕ) → among other elements ≡ true → Depends needs other other → ⊥
+TellsFirst needs elements (Some element) = IsFirstOnCycle needs elements element

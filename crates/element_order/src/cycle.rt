@@ -9,19 +9,24 @@ use crate::order::element_order;
 use esi_base::{List, NoMemory};
 use std::alloc::Global;
 
-/// The first element in text order that depends on itself, and None exactly where there is none. All
-/// elements that can be placed in element order, or in the order of what needs them, cost n log n
-/// together; each other one before the answer costs a walk through what it depends on.
-pub fn first_on_cycle(alloc: Global, needs: &[List<usize>]) -> Result<Option<usize>, NoMemory>
-    requires { All (AllBelow (length needs.now)) needs.now }
-    ensures { IfOk result (TellsFirst needs.now) }
+/// The first of some elements that depends on itself, and None exactly where none of them does. All that
+/// can be placed in element order, or in the order of what needs them, cost n log n together; each other
+/// one before the answer costs a walk through what it depends on.
+pub fn first_on_cycle(
+    alloc: Global,
+    needs: &[List<usize>],
+    elements: &[usize],
+) -> Result<Option<usize>, NoMemory>
+    requires needs { All (AllBelow (length needs.now)) needs.now }
+    requires elements { AllBelow (length needs.now) elements.now }
+    ensures { IfOk result (TellsFirst needs.now elements.now) }
 {
     let mut cleared = cleared_by_order(alloc, needs)?;
-    for element in 0..needs.len() {
-        if depends_on_itself(alloc, needs, cleared.as_slice(), element)? {
-            return Ok(Some(element));
+    for element in elements {
+        if depends_on_itself(alloc, needs, cleared.as_slice(), *element)? {
+            return Ok(Some(*element));
         }
-        cleared[element] = true;
+        cleared[*element] = true;
     }
     Ok(None)
 }
