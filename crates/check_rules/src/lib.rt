@@ -3,6 +3,7 @@
 //! rules by name, their limits, and what a reference may refer to.
 #![tactic(auto)]
 
+pub mod keys;
 pub mod limits;
 pub mod referent;
 pub mod rule;

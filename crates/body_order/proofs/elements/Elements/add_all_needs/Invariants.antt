@@ -1,0 +1,10 @@
+use Rattle.std.proofs.Common.{◌≡◌, ◌++◌, map, take, drop, length}
+use Rattle.std.specs.Prelude.{replicate}
+use Rattle.name_tables.specs.Keys.{label_of}
+use Rattle.check_rules.specs.Dependencies.{elements_of}
+use Rattle.check_rules.specs.References.{binding_source, sources_of}
+use Rattle.body_order.specs.Makers.{referred, first_needs, needs_of_sources, name_label, channel_labels, channel_makers, instance_labels, instance_makers}
+use Rattle.body_order.proofs.elements.Elements.add_all_needs.Given as goal
+
+abbrev pub invariant-loop-statement : goal.invariant-loop-statement
+invariant-loop-statement l = l.needs ≡ l.fn.needs ++ map (λ s. needs_of_sources l.self (sources_of s.now)) (take l.statement-index l.statements)

@@ -1,0 +1,10 @@
+//! What the elements of a body need of one another: the first of them that depends on itself, their order,
+//! and the channels that are taken with another signalling than they have.
+#![tactic(auto)]
+
+pub mod elements;
+mod order;
+mod sources;
+
+pub use elements::Elements;
+pub use sources::operation_sources;
