@@ -1,11 +1,11 @@
 -- A walk through what an element depends on, step by step.
-use Rattle.std.proofs.Common.{◌≡◌, ℕ, zero, suc, ◌+◌, ◌-◌, ◌<◌, ◌≤◌, Bool, true, false, not, List, [], ◌∷◌, ◌++◌, Option, Some, None, length, get_or, set, take, drop, refl, ap, sym, ◌∙◌, subst, inl, inr, arith, eqb}
-use Rattle.std.specs.Prelude.{◌||◌, ◌⊎◌, ◌↔◌, if◌then◌else◌, All, IsTrue, replicate}
+use Rattle.std.proofs.Common.{◌≡◌, ℕ, zero, suc, ◌+◌, ◌-◌, ◌<◌, ◌≤◌, Bool, true, false, not, List, [], ◌∷◌, ◌++◌, Option, Some, None, length, get_or, set, refl, ap, sym, ◌∙◌, subst, inl, inr, arith, eqb}
+use Rattle.std.specs.Prelude.{◌||◌, ◌⊎◌, ◌↔◌, if◌then◌else◌, All, IsTrue, IsSomeAnd, replicate}
 use Rattle.std.proofs.lemmas.Bool.{false≢true, cases_eq, cases_Bool, cases_lt, or_cases, or_parts, eqb-true, eq-eqb, ne_eqb, or_left, or_right}
-use Rattle.std.proofs.lemmas.List.{take_more, take_all, take-append-drop, drop_more, length_push, length-set, get_or-set_same, get_or-set_other, get_or_past, get_or_default, length-replicate, get_or-replicate}
+use Rattle.std.proofs.lemmas.List.{length_push, length-set, get_or-set_same, get_or-set_other, get_or_past, get_or_default, length-replicate, get_or-replicate}
 use Rattle.std.proofs.lemmas.List.Elements.{All-head, All-tail, All-nil, All-get_or, All-push, All-from_get_or}
 use Rattle.element_order.specs.Orders.{AllBelow, among, needs_of, ordered}
-use Rattle.element_order.specs.Laws.{Depends, IsFirstOnCycle}
+use Rattle.element_order.specs.Laws.{Depends, TellsFirst, IsFirstOnCycle}
 use Rattle.element_order.specs.Laws.Depends.{direct, through}
 use Rattle.element_order.specs.Worklists.{times, IsFeeds}
 use Rattle.element_order.specs.Reached.{unseen, is_marked, with_marks, AreClear, seen_with, waiting_with, all_seen, all_waiting, IsTurn, is_reached, Reach}
@@ -307,27 +307,40 @@ clear_more needs cleared x lt c not_itself = record {
       ];
 }
 
-pub marked_more : (cleared : List Bool) (elements : List ℕ) (i n : ℕ) → n ≡ length cleared → i < length elements → AllBelow n elements → ((k : ℕ) → among k (take i elements) ≡ true → is_marked cleared k ≡ true)
-    → (k : ℕ) → among k (take (i + 1) elements) ≡ true → is_marked (set cleared (get_or elements i 0) true) k ≡ true
-marked_more cleared elements i n count lt low each k there =
-    let x = get_or elements i 0 in
-    let within : x < length cleared = let is = All-get_or (λ q. q < n) elements i 0 lt low in omega (arith, count) in
-    set_marked cleared x k within
-    ∙ elim (or_cases (among k (take i elements)) (eqb k x) (sym (among-push (take i elements) x k) ∙ sym (ap (among k) (take_more elements i 0 lt)) ∙ there)) [
-      | inl t ↦ or_right (eqb k x) (is_marked cleared k) (each k t)
-      | inr t ↦ or_left (eqb k x) (is_marked cleared k) t
-    ]
-
-pub first_found : (needs : List (List ℕ)) (cleared : List Bool) (elements : List ℕ) (i : ℕ) → i < length elements → AreClear needs cleared → ((k : ℕ) → among k (take i elements) ≡ true → is_marked cleared k ≡ true)
-    → Depends needs (get_or elements i 0) (get_or elements i 0) → IsFirstOnCycle needs elements (get_or elements i 0)
-first_found needs cleared elements i lt c before itself = record {
-  before = take i elements;
-  after = drop (i + 1) elements;
-  split = sym (take-append-drop i elements) ∙ ap (λ xs. take i elements ++ xs) (drop_more elements i 0 lt);
-  itself = itself;
-  first = λ other there d. c.each other (before other there) d;
+-- one element more that does not depend on itself, or stands no earlier
+pub tells_other : (needs : List (List ℕ)) (places : List ℕ) (n : ℕ) (first : Option ℕ) → (Depends needs n n → IsSomeAnd first (λ at. at ≤ get_or places n 0)) → TellsFirst needs places n first → TellsFirst needs places (n + 1) first
+tells_other needs places n None later t = λ other lt d. elim (cases_eq other n) [ inl is ↦ later (subst (λ q. Depends needs q q) is d) | inr ne ↦ t other (omega (arith, ne)) d ]
+tells_other needs places n (Some at) later t = record {
+  element = t.element;
+  low = (let lt = t.low in omega arith);
+  itself = t.itself;
+  stands = t.stands;
+  first = λ other lt d.
+      elim (cases_eq other n) [
+        | inl is ↦ subst (λ q. at ≤ get_or places q 0) (sym is) (later (subst (λ q. Depends needs q q) is d))
+        | inr ne ↦ t.first other (omega (arith, ne)) d
+      ];
 }
 
-pub none_found : (needs : List (List ℕ)) (cleared : List Bool) (elements : List ℕ) (i : ℕ) → length elements ≤ i → AreClear needs cleared → ((k : ℕ) → among k (take i elements) ≡ true → is_marked cleared k ≡ true)
-    → (other : ℕ) → among other elements ≡ true → Depends needs other other → ⊥
-none_found needs cleared elements i ge c before other there = c.each other (before other (ap (among other) (take_all i elements ge) ∙ there))
+-- one that does, and stands before
+pub tells_here : (needs : List (List ℕ)) (places : List ℕ) (n : ℕ) (first : Option ℕ) → Depends needs n n → (IsSomeAnd first (λ at. at ≤ get_or places n 0) → ⊥) → TellsFirst needs places n first → IsFirstOnCycle needs places (n + 1) (get_or places n 0)
+tells_here needs places n None itself before t = record {
+  element = n;
+  low = omega arith;
+  itself = itself;
+  stands = refl;
+  first = λ other lt d. elim (cases_eq other n) [ inl is ↦ (let e : get_or places other 0 ≡ get_or places n 0 = ap (λ q. get_or places q 0) is in omega arith) | inr ne ↦ absurd (t other (omega (arith, ne)) d) ];
+}
+tells_here needs places n (Some at) itself before t = record {
+  element = n;
+  low = omega arith;
+  itself = itself;
+  stands = refl;
+  first = λ other lt d.
+      elim (cases_eq other n) [
+        | inl is ↦ (let e : get_or places other 0 ≡ get_or places n 0 = ap (λ q. get_or places q 0) is in omega arith)
+        | inr ne ↦
+            let more = t.first other (omega (arith, ne)) d in
+            elim (cases_lt (get_or places n 0) at) [ inl low ↦ omega arith | inr ge ↦ absurd (before ge) ]
+      ];
+}

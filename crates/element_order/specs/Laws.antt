@@ -1,5 +1,5 @@
 -- What the order is, and what follows from it.
-use Rattle.std.specs.Prelude.{◌≡◌, ℕ, ◌<◌, Bool, true, List, ◌∷◌, ◌++◌, Option, Some, None, All, length, get_or, take, eqb}
+use Rattle.std.specs.Prelude.{◌≡◌, ℕ, ◌<◌, ◌≤◌, Bool, true, List, Option, Some, None, All, length, get_or, take, eqb}
 use Rattle.std.specs.List.{IsDistinct}
 use Rattle.element_order.specs.Orders.{AllBelow, among, all_among, needs_of, next_ready, ordered}
 
@@ -39,15 +39,15 @@ AllOrders = (needs : List (List ℕ)) → All (AllBelow (length needs)) needs �
 abbrev pub OneOrder : Type 0
 OneOrder = (needs : List (List ℕ)) (placed other : List ℕ) → IsElementOrder needs placed → IsElementOrder needs other → placed ≡ other
 
--- One of some elements depends on itself, and none that stands before it among them does.
-pub record IsFirstOnCycle (needs : List (List ℕ)) (elements : List ℕ) (element : ℕ) : Type 0 where
-  pub before : List ℕ
-  pub after : List ℕ
-  pub split : elements ≡ before ++ element ∷ after
+-- Of the first `n` elements, one that depends on itself stands at the place, and none of them that does stands before it.
+pub record IsFirstOnCycle (needs : List (List ℕ)) (places : List ℕ) (n at : ℕ) : Type 0 where
+  pub element : ℕ
+  pub low : element < n
   pub itself : Depends needs element element
-  pub first : (other : ℕ) → among other before ≡ true → Depends needs other other → ⊥
+  pub stands : get_or places element 0 ≡ at
+  pub first : (other : ℕ) → other < n → Depends needs other other → at ≤ get_or places other 0
 
--- the first of some elements that depends on itself, where one does
-abbrev pub TellsFirst : List (List ℕ) → List ℕ → Option ℕ → Type 0
-TellsFirst needs elements None = (other : ℕ) → among other elements ≡ true → Depends needs other other → ⊥
-TellsFirst needs elements (Some element) = IsFirstOnCycle needs elements element
+-- the first place of an element that depends on itself, where one does
+abbrev pub TellsFirst : List (List ℕ) → List ℕ → ℕ → Option ℕ → Type 0
+TellsFirst needs places n None = (other : ℕ) → other < n → Depends needs other other → ⊥
+TellsFirst needs places n (Some at) = IsFirstOnCycle needs places n at

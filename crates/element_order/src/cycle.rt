@@ -1,5 +1,5 @@
 //! The first element that depends on itself.
-ghost use Rattle.std.specs.Prelude.{◌≡◌, ◌<◌, ◌↔◌, [], ◌++◌, true, false, All, IfOk, OnOk, IsTrue, length, replicate};
+ghost use Rattle.std.specs.Prelude.{◌≡◌, ◌+◌, ◌<◌, ◌≤◌, ◌↔◌, [], true, false, All, IfOk, OnOk, IsTrue, IsSomeAnd, length, replicate};
 ghost use Rattle.element_order.specs.Orders.{AllBelow, needs_of};
 ghost use Rattle.element_order.specs.Laws.{Depends, TellsFirst};
 ghost use Rattle.element_order.specs.Reached.{AreClear, IsTurn, with_marks, seen_with, waiting_with, all_seen, all_waiting};
@@ -9,26 +9,62 @@ use crate::order::element_order;
 use esi_base::{List, NoMemory};
 use std::alloc::Global;
 
-/// The first of some elements that depends on itself, and None exactly where none of them does. All that
-/// can be placed in element order, or in the order of what needs them, cost n log n together; each other
-/// one before the answer costs a walk through what it depends on.
+/// The first place of an element that depends on itself, and None exactly where none does; `places` has the
+/// place of each element in the text. All that can be placed in element order, or in the order of what
+/// needs them, cost n log n together; each other one before the answer costs a walk through what it depends
+/// on.
 pub fn first_on_cycle(
     alloc: Global,
     needs: &[List<usize>],
-    elements: &[usize],
+    places: &[usize],
 ) -> Result<Option<usize>, NoMemory>
     requires needs { All (AllBelow (length needs.now)) needs.now }
-    requires elements { AllBelow (length needs.now) elements.now }
-    ensures { IfOk result (TellsFirst needs.now elements.now) }
+    requires places { length places.now ≡ length needs.now }
+    ensures { IfOk result (TellsFirst needs.now places.now (length needs.now)) }
 {
     let mut cleared = cleared_by_order(alloc, needs)?;
-    for element in elements {
-        if depends_on_itself(alloc, needs, cleared.as_slice(), *element)? {
-            return Ok(Some(*element));
-        }
-        cleared[*element] = true;
+    let mut first = None;
+    for element in 0..needs.len() {
+        first = earlier_on_cycle(alloc, needs, places, &mut cleared, element, first)?;
     }
-    Ok(None)
+    Ok(first)
+}
+
+/// The first place, over one element more. Clears it where it does not depend on itself.
+fn earlier_on_cycle(
+    alloc: Global,
+    needs: &[List<usize>],
+    places: &[usize],
+    cleared: &mut Vec<bool>,
+    element: usize,
+    first: Option<usize>,
+) -> Result<Option<usize>, NoMemory>
+    requires needs { All (AllBelow (length needs.now)) needs.now }
+    requires places { length places.now ≡ length needs.now }
+    requires low { element < length needs.now }
+    requires cleared { AreClear needs.now cleared.old.items }
+    requires first { TellsFirst needs.now places.now element first }
+    ensures cleared { OnOk result (AreClear needs.now cleared.new.items) }
+    ensures first { IfOk result (TellsFirst needs.now places.now (element + 1)) }
+{
+    if is_before(first, places[element]) {
+        return Ok(first);
+    }
+    if depends_on_itself(alloc, needs, cleared.as_slice(), element)? {
+        return Ok(Some(places[element]));
+    }
+    cleared[element] = true;
+    Ok(first)
+}
+
+/// Whether there is a first place, and it is not after this one.
+fn is_before(first: Option<usize>, place: usize) -> bool
+    ensures { IsTrue result ↔ IsSomeAnd first (λ at. at ≤ place) }
+{
+    match first {
+        None => false,
+        Some(at) => at <= place,
+    }
 }
 
 /// Marks of the elements that stand in element order, or in the order of what needs them: no such one
