@@ -1,2 +1,3 @@
 pub mod MakerLaws
 pub mod NeedLaws
+pub mod CycleLaws

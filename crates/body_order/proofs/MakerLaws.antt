@@ -50,7 +50,7 @@ index_later label j (x ∷ xs) ys e =
 
 -- ---- what is found, by names of any kind
 -- the reference is to what the elements make whose names have this one
-record IsNamed (labels_of : Statement → List Label) (count : Statement → ℕ) (label : Label) (r : Reference) : Type 0 where
+pub record IsNamed (labels_of : Statement → List Label) (count : Statement → ℕ) (label : Label) (r : Reference) : Type 0 where
   pub same : (e : Statement) → makes r e ≡ stands label (labels_of e)
   pub counted : (e : Statement) → count e ≡ length (labels_of e)
 
@@ -82,7 +82,7 @@ channel_stands : (name : Name) (names : List Name) → is_among name names ≡ s
 channel_stands name [] = refl
 channel_stands name (x ∷ xs) = ap (λ b. is_name name x || b) (channel_stands name xs)
 
-channel_named : (name : Name) → IsNamed (λ element. map name_label (channels_of element)) (λ element. length (channels_of element)) (name_label name) (R.Channel name)
+pub channel_named : (name : Name) → IsNamed (λ element. map name_label (channels_of element)) (λ element. length (channels_of element)) (name_label name) (R.Channel name)
 channel_named name = record { same = λ e. same e; counted = λ e. sym (length-map (channels_of e) name_label) }
   where
     same : (e : Statement) → makes (R.Channel name) e ≡ stands (name_label name) (map name_label (channels_of e))
@@ -110,7 +110,7 @@ same_ids a b = ap (λ c. is_name a.name b.name && c) (same_indices a.index b.ind
     swapped false true = refl
     swapped false false = refl
 
-instance_named : (id : ApplicationId) (name : Name) → IsNamed instance_labels_of (λ element. length (instance_labels_of element)) (id_named id).label (R.Member id name)
+pub instance_named : (id : ApplicationId) (name : Name) → IsNamed instance_labels_of (λ element. length (instance_labels_of element)) (id_named id).label (R.Member id name)
 instance_named id name = record { same = λ e. same e; counted = λ e. refl }
   where
     last : (b : Bool) → b ≡ (b || false)

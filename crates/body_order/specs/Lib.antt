@@ -1,1 +1,3 @@
+pub mod Cycles
 pub mod Makers
+pub mod Signals

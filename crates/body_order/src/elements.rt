@@ -55,6 +55,13 @@ impl<'a> Elements<'a> {
         })
     }
 
+    /// The statements, in the text's order.
+    pub fn statements(&self) -> &[&'a Statement]
+        ensures { referred result.now ≡ self.now }
+    {
+        self.statements.as_slice()
+    }
+
     /// The first element that makes what the reference is to, by its number among the elements.
     #[tactic(auto, using(crate::proofs::MakerLaws::channel_found, crate::proofs::MakerLaws::instance_found))]
     pub fn maker(&self, reference: &'a Reference) -> Option<usize>

@@ -3,8 +3,11 @@
 #![tactic(auto)]
 
 pub mod elements;
+mod laws;
 mod order;
 mod sources;
 
 pub use elements::Elements;
+pub use laws::needs_law;
+pub use order::place_of;
 pub use sources::operation_sources;
