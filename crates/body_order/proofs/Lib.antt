@@ -1,3 +1,4 @@
 pub mod MakerLaws
 pub mod NeedLaws
 pub mod CycleLaws
+pub mod SignalLaws

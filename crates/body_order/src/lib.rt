@@ -5,6 +5,7 @@
 pub mod elements;
 mod laws;
 mod order;
+mod signals;
 mod sources;
 
 pub use elements::Elements;
