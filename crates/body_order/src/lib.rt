@@ -9,6 +9,6 @@ mod signals;
 mod sources;
 
 pub use elements::Elements;
-pub use laws::needs_law;
+pub use laws::{bodies_law, needs_law};
 pub use order::place_of;
 pub use sources::operation_sources;
