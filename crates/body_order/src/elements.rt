@@ -198,7 +198,7 @@ fn made_channels<'a>(
     ensures names { IfOk result (λ made. made.names ≡ channel_labels (referred elements.now)) }
     ensures makers { IfOk result (λ made. made.makers.items ≡ channel_makers 0 (referred elements.now)) }
 {
-    let mut names = Vec::new(alloc);
+    let mut names = List::new(alloc);
     let mut makers = Vec::new(alloc);
     for (number, element) in elements.iter().enumerate() {
         add_channels(&mut names, &mut makers, element, number)?;
@@ -209,12 +209,12 @@ fn made_channels<'a>(
 
 /// Adds the names of the channels that an element makes.
 fn add_channels<'a>(
-    names: &mut Vec<Key<'a>>,
+    names: &mut List<Key<'a>>,
     makers: &mut Vec<usize>,
     element: &'a Statement,
     number: usize,
 ) -> Result<(), NoMemory>
-    ensures names { OnOk result (map label_of names.new.items ≡ map label_of names.old.items ++ map name_label (channels_of element.now)) }
+    ensures names { OnOk result (map label_of names.new ≡ map label_of names.old ++ map name_label (channels_of element.now)) }
     ensures makers { OnOk result (makers.new.items ≡ makers.old.items ++ replicate (length (channels_of element.now)) number) }
 {
     match element {
@@ -227,16 +227,16 @@ fn add_channels<'a>(
 
 /// Adds names, all made by one element.
 fn add_names<'a>(
-    names: &mut Vec<Key<'a>>,
+    names: &mut List<Key<'a>>,
     makers: &mut Vec<usize>,
     channels: &'a [Name],
     number: usize,
 ) -> Result<(), NoMemory>
-    ensures names { OnOk result (map label_of names.new.items ≡ map label_of names.old.items ++ map name_label channels.now) }
+    ensures names { OnOk result (map label_of names.new ≡ map label_of names.old ++ map name_label channels.now) }
     ensures makers { OnOk result (makers.new.items ≡ makers.old.items ++ replicate (length channels.now) number) }
 {
     for channel in channels {
-        names.push(name_key(channel))?;
+        names.add(name_key(channel))?;
         makers.push(number)?;
     }
     Ok(())
@@ -250,7 +250,7 @@ fn made_instances<'a>(
     ensures names { IfOk result (λ made. made.names ≡ instance_labels (referred elements.now)) }
     ensures makers { IfOk result (λ made. made.makers.items ≡ instance_makers 0 (referred elements.now)) }
 {
-    let mut names = Vec::new(alloc);
+    let mut names = List::new(alloc);
     let mut makers = Vec::new(alloc);
     for (number, element) in elements.iter().enumerate() {
         add_instance(&mut names, &mut makers, element, number)?;
@@ -261,17 +261,17 @@ fn made_instances<'a>(
 
 /// Adds the application id of an instance.
 fn add_instance<'a>(
-    names: &mut Vec<Key<'a>>,
+    names: &mut List<Key<'a>>,
     makers: &mut Vec<usize>,
     element: &'a Statement,
     number: usize,
 ) -> Result<(), NoMemory>
-    ensures names { OnOk result (map label_of names.new.items ≡ map label_of names.old.items ++ instance_labels_of element.now) }
+    ensures names { OnOk result (map label_of names.new ≡ map label_of names.old ++ instance_labels_of element.now) }
     ensures makers { OnOk result (makers.new.items ≡ makers.old.items ++ replicate (length (instance_labels_of element.now)) number) }
 {
     match element {
         Statement::Instance { id, .. } => {
-            names.push(id_key(id))?;
+            names.add(id_key(id))?;
             makers.push(number)?;
             Ok(())
         }

@@ -1,5 +1,6 @@
 -- The bodies of a design, and what can be named in each.
-use Rattle.std.specs.Prelude.{ℕ, Bool, Option, Some, None, List, [], ◌∷◌, ◌++◌, map, find, flat_map, bytes_eq, ◌&&◌, ◌==◌, true, false}
+use Rattle.std.specs.Prelude.{ℕ, Bool, Option, Some, None, List, [], ◌∷◌, ◌++◌, map, find, flat_map, bytes_eq, ◌&&◌, false}
+use Rattle.name_tables.specs.Labels.{same_index}
 use Rattle.design_tree.specs.declared.leaves.Name.{Name}
 use Rattle.design_tree.specs.declared.leaves.ApplicationId.{ApplicationId}
 use Rattle.design_tree.specs.declared.statements.Statement.{Statement}
@@ -109,14 +110,9 @@ find_service_port name = find (λ p. is_name name p.name)
 abbrev pub find_port : Name → List ModulePort → Option ModulePort
 find_port name = find (λ p. is_name name p.name)
 
-abbrev pub same_index : Option ℕ → Option ℕ → Bool
-same_index None None = true
-same_index (Some a) (Some b) = a == b
-same_index a b = false
-
 -- `a[1]` and `a[0x1]` are one id; `a` and `a[0]` are two
 abbrev pub is_id : ApplicationId → ApplicationId → Bool
-is_id a b = is_name a.name b.name && same_index a.index b.index
+is_id a b = same_index a.index b.index && is_name a.name b.name
 
 -- the application id that a statement declares
 abbrev pub id_of : Statement → Option ApplicationId

@@ -1,6 +1,6 @@
 -- Walks that keep the least place found so far.
 use Rattle.std.proofs.Common.{◌≡◌, ℕ, ◌+◌, ◌<◌, List, [], ◌∷◌, ◌++◌, length, get_or, take, refl, ap, sym, ◌∙◌}
-use Rattle.std.specs.Prelude.{Option}
+use Rattle.std.specs.Prelude.{Option, Result, Ok, Err, IfOk}
 use Rattle.std.specs.List.{flat_map}
 use Rattle.std.proofs.lemmas.Grind.{flat_map-append}
 use Rattle.std.proofs.lemmas.List.{take_more, append-nil}
@@ -27,3 +27,12 @@ least_item F first place more xs i x within is before adds = adds ∙ ap (λ p. 
 -- two lists, one after the other
 pub least_parts : (first : Option ℕ) (xs ys : List ℕ) → least_from (least_from first xs) ys ≡ least_from first (xs ++ ys)
 least_parts first xs ys = sym (least_from-append first xs ys)
+
+-- what follows from what a clause says of an answer
+pub if_ok_then : {A F : Type 0} {P Q : A → Type 0} (r : Result A F) → IfOk r P → ((a : A) → P a → Q a) → IfOk r Q
+if_ok_then (Ok a) p f = f a p
+if_ok_then (Err e) p f = p
+
+-- three lists, one after the other
+pub least_three : (first : Option ℕ) (xs ys zs : List ℕ) → least_from (least_from (least_from first xs) ys) zs ≡ least_from first (xs ++ (ys ++ zs))
+least_three first xs ys zs = least_parts (least_from first xs) ys zs ∙ least_parts first xs (ys ++ zs)

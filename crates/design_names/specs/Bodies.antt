@@ -53,3 +53,6 @@ AreModuleBodies before [] [] = Unit {0}
 AreModuleBodies before [] (b ∷ bs) = ⊥
 AreModuleBodies before (m ∷ ms) [] = ⊥
 AreModuleBodies before (m ∷ ms) (b ∷ bs) = IsBody before m.ports m.body [] b × AreModuleBodies (before + 1) ms bs
+
+abbrev pub text_of : List Declaration → Top → DesignText
+text_of declarations top = record { declarations = declarations; top = top }

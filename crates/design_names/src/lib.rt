@@ -4,7 +4,21 @@
 
 mod bodies;
 mod body;
+mod body_names;
+mod bundles;
 mod counts;
+mod declared;
 mod declared_twice;
+mod design_names;
+mod directions;
 mod keys;
+mod lookup;
+mod modules;
+mod operation_sources;
+mod resolving;
+mod scope_names;
+mod services;
+mod unused;
 mod used_twice;
+
+pub use design_names::DesignNames;

@@ -7,24 +7,12 @@ use Rattle.name_tables.specs.declared.key.Key.{Key}
 use Rattle.name_tables.specs.contracts.key.KeyOrd.TheImpl.{cmp-value}
 use Rattle.name_tables.specs.Labels.{Label, same_label}
 use Rattle.name_tables.specs.LabelLaws.{same_label-one, same_label-refl, same_label-sym}
-use Rattle.name_tables.specs.Lists.{stands, index_from, index_in}
+use Rattle.name_tables.specs.Lists.{index_from, index_in}
 use Rattle.name_tables.specs.Keys.{label_of}
 use Rattle.name_tables.specs.Tables.{found_in, IsTable}
 use Rattle.name_tables.proofs.KeyOrder.{compare_same}
 
 -- ---- the first index of a name
-
-found_from : (label : Label) (i : ℕ) (labels : List Label) → is_some (index_from label i labels) ≡ stands label labels
-found_from label i [] = refl
-found_from label i (x ∷ xs) = tested (same_label label x) (found_from label (i + 1) xs)
-  where
-    tested : (b : Bool) → is_some (index_from label (i + 1) xs) ≡ stands label xs → is_some (if b then Some i else index_from label (i + 1) xs) ≡ b || stands label xs
-    tested true later = refl
-    tested false later = later
-
--- a name has an index exactly where it stands there
-pub found_stands : (label : Label) (labels : List Label) → is_some (index_in label labels) ≡ stands label labels
-found_stands label labels = found_from label 0 labels
 
 -- what an index found before leaves of the next one
 abbrev pub or_next : Option ℕ → Bool → ℕ → Option ℕ

@@ -1,12 +1,12 @@
 -- The lists of places are those of the relations.
 use Rattle.std.proofs.Common.{◌≡◌, ℕ, ◌+◌, Bool, true, false, not, ◌||◌, List, [], ◌∷◌, ◌++◌, map, ◌⊎◌, inl, inr, refl, ap, sym, ◌∙◌, subst, append_assoc, arith}
-use Rattle.std.specs.Prelude.{Option, Some, None, Contains, if◌then◌else◌}
+use Rattle.std.specs.Prelude.{Option, Some, None, is_some, Contains, if◌then◌else◌}
 use Rattle.std.proofs.lemmas.List.{map-append, append-nil}
 use Rattle.std.proofs.lemmas.Bool.{or_cases, or_left, or_right}
 use Rattle.std.proofs.lemmas.List.Elements.{Contains-append_left, Contains-append_right, Contains-append_cases}
 use Rattle.name_tables.specs.Labels.{Label, Occurrence, label_at, same_label}
 use Rattle.name_tables.specs.Repeats.{IsRepeat, IsUnknown}
-use Rattle.name_tables.specs.Lists.{stands, repeats_after, repeats, missing}
+use Rattle.name_tables.specs.Lists.{stands, repeats_after, repeats, missing, index_from, index_in}
 use Rattle.name_tables.specs.LabelLaws.{same_label-refl, same_label-one}
 use Rattle.name_tables.specs.PlaceLaws.{contains_none, contains_one, contains_here, contains_later, contains_cases}
 
@@ -157,3 +157,17 @@ not_stands known label new = tested (stands label known) refl
 -- Where a name stands that is none of the known ones, the list has the place.
 pub are_missing : (known : List Label) (names : List Occurrence) (at : ℕ) → IsUnknown known names at → Contains (missing known names) at
 are_missing known names at h = subst (λ n. Contains (missing known names) n) h.stands (unknown_is_missing known names h.name h.there (not_stands known h.name.label h.new))
+
+-- ---- the first index of a name
+
+pub found_from : (label : Label) (i : ℕ) (labels : List Label) → is_some (index_from label i labels) ≡ stands label labels
+found_from label i [] = refl
+found_from label i (x ∷ xs) = tested (same_label label x) (found_from label (i + 1) xs)
+  where
+    tested : (b : Bool) → is_some (index_from label (i + 1) xs) ≡ stands label xs → is_some (if b then Some i else index_from label (i + 1) xs) ≡ b || stands label xs
+    tested true later = refl
+    tested false later = later
+
+-- a name has an index exactly where it stands there
+pub found_stands : (label : Label) (labels : List Label) → is_some (index_in label labels) ≡ stands label labels
+found_stands label labels = found_from label 0 labels

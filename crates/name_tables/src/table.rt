@@ -6,7 +6,7 @@ ghost use Rattle.name_tables.specs.Keys.{label_of};
 ghost use Rattle.name_tables.specs.Tables.{IsTable};
 
 use crate::key::Key;
-use esi_base::NoMemory;
+use esi_base::{List, NoMemory};
 use std::alloc::Global;
 use std::collections::BTreeMap;
 use std::marker::Model;
@@ -15,32 +15,29 @@ use std::marker::Model;
 /// names.
 #[derive(Drop)]
 pub struct NameTable<'a> {
-    names: Vec<Key<'a>>,
+    names: List<Key<'a>>,
     indices: BTreeMap<Key<'a>, usize>,
 }
 
 impl<'a> Model for NameTable<'a> {
-    ghost use Rattle.std.specs.Prelude.{List, map};
+    ghost use Rattle.std.specs.Prelude.{List as Listed, map};
     ghost use Rattle.name_tables.specs.Labels.{Label};
     ghost use Rattle.name_tables.specs.Keys.{label_of};
     ghost use Rattle.name_tables.specs.Tables.{IsTable};
 
-    ghost Value = { List Label };
+    ghost Value = { Listed Label };
 
-    ghost view = { λ t. map label_of t.names.items };
+    ghost view = { λ t. map label_of t.names };
 
-    ghost invariant = { λ t. IsTable t.indices t.names.items };
+    ghost invariant = { λ t. IsTable t.indices t.names };
 }
 
 impl<'a> NameTable<'a> {
     /// The table of some names. It takes time in n log n.
-    pub fn of(alloc: Global, names: Vec<Key<'a>>) -> Result<NameTable<'a>, NoMemory>
-        ensures { IfOk result (λ table. table ≡ map label_of names.entry.items) }
+    pub fn of(alloc: Global, names: List<Key<'a>>) -> Result<NameTable<'a>, NoMemory>
+        ensures { IfOk result (λ table. table ≡ map label_of names.entry) }
     {
-        let mut indices = BTreeMap::new(alloc);
-        for index in 0..names.len() {
-            note_next(&mut indices, &names, index)?;
-        }
+        let indices = indices_of(alloc, names.as_slice())?;
         Ok(NameTable { names, indices })
     }
 
@@ -52,12 +49,26 @@ impl<'a> NameTable<'a> {
     }
 
     /// Whether it is one of the names.
-    #[tactic(auto, using(crate::proofs::Tables::found_stands))]
+    #[tactic(auto, using(crate::specs::ListLaws::found_stands))]
     pub fn contains(&self, name: &Key<'a>) -> bool
         ensures { result ≡ stands (label_of name.now) self.now }
     {
         self.find(name).is_some()
     }
+}
+
+/// The index at which each of the names stands first.
+fn indices_of<'a>(
+    alloc: Global,
+    names: &[Key<'a>],
+) -> Result<BTreeMap<Key<'a>, usize>, NoMemory>
+    ensures { IfOk result (λ indices. IsTable indices names.now) }
+{
+    let mut indices = BTreeMap::new(alloc);
+    for index in 0..names.len() {
+        note_next(&mut indices, names, index)?;
+    }
+    Ok(indices)
 }
 
 /// Notes the name at an index, unless it stood before.

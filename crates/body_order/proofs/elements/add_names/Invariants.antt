@@ -7,4 +7,4 @@ use Rattle.body_order.specs.Makers.{referred, first_needs, needs_of_sources, nam
 use Rattle.body_order.proofs.elements.add_names.Given as goal
 
 abbrev pub invariant-loop-channel : goal.invariant-loop-channel
-invariant-loop-channel l = record { names : map label_of l.names.items ≡ map label_of l.fn.names.items ++ map name_label (take l.channel-index l.channels); makers : l.makers.items ≡ l.fn.makers.items ++ replicate l.channel-index l.number }
+invariant-loop-channel l = record { names : map label_of l.names ≡ map label_of l.fn.names ++ map name_label (take l.channel-index l.channels); makers : l.makers.items ≡ l.fn.makers.items ++ replicate l.channel-index l.number }
