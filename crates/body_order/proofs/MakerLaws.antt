@@ -13,7 +13,6 @@ use Rattle.design_tree.specs.declared.statements.Statement.TheVariants as S
 use Rattle.name_tables.specs.Labels.{Label, same_label, same_index}
 use Rattle.name_tables.specs.Lists.{stands, index_from, index_in}
 use Rattle.check_rules.specs.Scopes.{is_name, is_id}
-use Rattle.check_rules.specs.Scopes as scopes
 use Rattle.check_rules.specs.References.{named, id_named, channels_of, is_among}
 use Rattle.check_rules.specs.Dependencies.{makes}
 use Rattle.body_order.specs.Makers.{maker_from, maker, name_label, channel_labels, makers_by, channel_makers, instance_labels_of, instance_labels, instance_makers, maker_at}
@@ -95,20 +94,8 @@ pub channel_found : (es : List Statement) (name : Name) → maker_at (channel_ma
 channel_found es name = found_from (λ element. map name_label (channels_of element)) (λ element. length (channels_of element)) (name_label name) (R.Channel name) (channel_named name) es 0 0 [] refl
 
 -- ---- instances
-same_indices : (a b : Option ℕ) → scopes.same_index a b ≡ same_index a b
-same_indices None None = refl
-same_indices None (Some b) = refl
-same_indices (Some a) None = refl
-same_indices (Some a) (Some b) = refl
-
 pub same_ids : (a b : ApplicationId) → is_id a b ≡ same_label (id_named a).label (id_named b).label
-same_ids a b = ap (λ c. is_name a.name b.name && c) (same_indices a.index b.index) ∙ swapped (is_name a.name b.name) (same_index a.index b.index)
-  where
-    swapped : (x y : Bool) → (x && y) ≡ (y && x)
-    swapped true true = refl
-    swapped true false = refl
-    swapped false true = refl
-    swapped false false = refl
+same_ids a b = refl
 
 pub instance_named : (id : ApplicationId) (name : Name) → IsNamed instance_labels_of (λ element. length (instance_labels_of element)) (id_named id).label (R.Member id name)
 instance_named id name = record { same = λ e. same e; counted = λ e. refl }
