@@ -29,7 +29,7 @@ pub record IsStep (n : ℕ) (sources made : List ℕ) (flat : Flat) (made' : Lis
   pub count : length new ≡ n
   pub same : (f : ℕ → ℕ) → total f new + total f (used_in flat') + total f (made_in flat) ≡ total f (made_in flat') + total f (used_in flat) + total f (chosen made sources)
 
-one_step : (plans : List Plan) (takes : ℕ → ℕ) (inner : Lays) (k : ℕ) (step : Step) (made : List ℕ) (flat : Flat) → InnerLaw plans takes inner k → IsFitting takes k step
+pub one_step : (plans : List Plan) (takes : ℕ → ℕ) (inner : Lays) (k : ℕ) (step : Step) (made : List ℕ) (flat : Flat) → InnerLaw plans takes inner k → IsFitting takes k step
     → IsStep (makes plans step) (sources_of step) made flat (stepped inner step made flat).0 (stepped inner step made flat).1
 one_step plans takes inner k (S.Element part sources widths) made flat law fits = record {
   new = count_from (length flat.widths) widths;
@@ -48,7 +48,7 @@ one_step plans takes inner k (S.Instance body sources) made flat law fits = reco
   same = λ f. let inside = (law.balanced body (chosen made sources) flat fits.0 (length-chosen made sources ∙ fits.1)).same f in omega arith;
 }
 
-number_step : (plans : List Plan) (takes : ℕ → ℕ) (inner : Lays) (k servers : ℕ) (step : Step) (made : List ℕ) (flat : Flat) → InnerLaw plans takes inner k → IsFitting takes k step → Below (length made) (sources_of step)
+pub number_step : (plans : List Plan) (takes : ℕ → ℕ) (inner : Lays) (k servers : ℕ) (step : Step) (made : List ℕ) (flat : Flat) → InnerLaw plans takes inner k → IsFitting takes k step → Below (length made) (sources_of step)
     → Below (length flat.widths) made → AreNumbered servers flat.elements (length flat.widths) → StaysNumbered servers flat (stepped inner step made flat).0 (stepped inner step made flat).1
 number_step plans takes inner k servers (S.Element part sources widths) made flat law fits low given numbered = record {
   numbered = subst (λ n. AreNumbered servers (flat.elements ++ record { part = part; sources = chosen made sources; sinks = count_from (length flat.widths) widths } ∷ []) n) (sym longer)
@@ -82,7 +82,7 @@ pub record AreStepsDone (m : ℕ) (sources made : List ℕ) (flat : Flat) (made'
   pub count : length made' ≡ m
   pub same : (f : ℕ → ℕ) → total f new + total f (used_in flat') + total f (made_in flat) ≡ total f (made_in flat') + total f (used_in flat) + total f (chosen made' sources)
 
-steps_done : (plans : List Plan) (takes : ℕ → ℕ) (inner : Lays) (k n m : ℕ) (steps : List Step) (made : List ℕ) (flat : Flat) → InnerLaw plans takes inner k → AreSteps plans takes k n steps m → length made ≡ n
+pub steps_done : (plans : List Plan) (takes : ℕ → ℕ) (inner : Lays) (k n m : ℕ) (steps : List Step) (made : List ℕ) (flat : Flat) → InnerLaw plans takes inner k → AreSteps plans takes k n steps m → length made ≡ n
     → AreStepsDone m (flat_map sources_of steps) made flat (steps_laid inner steps made flat).0 (steps_laid inner steps made flat).1
 steps_done plans takes inner k _ _ _ made flat law (none n) count = record { new = []; split = sym (append-nil made); count = count; same = λ f. omega arith }
 steps_done plans takes inner k _ _ _ made flat law (more n m step steps low fits rest) count =
@@ -145,14 +145,14 @@ plan_numbered plans takes inner k servers plan given flat law p count low number
     record { numbered = all.numbered; handed = below-chosen (length last.1.widths) last.0 plan.outs all.handed (subst (λ q. Below q plan.outs) (sym done.count) p.outs); grows = all.grows }
 
 -- ---- levels
-fewer : (plans : List Plan) (takes : ℕ → ℕ) (inner : Lays) (k body : ℕ) → body ≤ k → InnerLaw plans takes inner k → InnerLaw plans takes inner body
+pub fewer : (plans : List Plan) (takes : ℕ → ℕ) (inner : Lays) (k body : ℕ) → body ≤ k → InnerLaw plans takes inner k → InnerLaw plans takes inner body
 fewer plans takes inner k body le law = record {
   balanced = λ b given flat low count. law.balanced b given flat (omega arith) count;
   count = λ b given flat low count. law.count b given flat (omega arith) count;
   numbered = λ servers b given flat low count given_low numbered. law.numbered servers b given flat (omega arith) count given_low numbered;
 }
 
-level_law : (plans : List Plan) (takes : ℕ → ℕ) → ArePlans plans takes → (levels : ℕ) → levels ≤ length plans → InnerLaw plans takes (laid plans levels) levels
+pub level_law : (plans : List Plan) (takes : ℕ → ℕ) → ArePlans plans takes → (levels : ℕ) → levels ≤ length plans → InnerLaw plans takes (laid plans levels) levels
 level_law plans takes good zero le = record {
   balanced = λ body given flat lt count. absurd (omega arith);
   count = λ body given flat lt count. absurd (omega arith);

@@ -2,3 +2,4 @@ pub mod Counting
 pub mod Laid
 pub mod Totals
 pub mod Balances
+pub mod Fittings
