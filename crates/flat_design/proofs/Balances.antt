@@ -1,15 +1,15 @@
 -- What a body is given and makes is what it uses and hands out, and the list stays numbered.
-use Rattle.std.proofs.Common.{◌≡◌, ℕ, zero, suc, ◌+◌, ◌-◌, ◌<◌, ◌≤◌, List, [], ◌∷◌, ◌++◌, Option, Some, None, length, get_or, refl, ap, sym, ◌∙◌, subst, arith}
-use Rattle.std.specs.Prelude.{All, flat_map, slice_get}
-use Rattle.std.proofs.lemmas.List.{length-append, append_assoc, append-nil, get_or_append_left}
-use Rattle.std.proofs.lemmas.List.Elements.{All-nil, All-append, All-weaker}
+use Rattle.std.proofs.Common.{◌≡◌, ℕ, zero, suc, ◌+◌, ◌<◌, ◌≤◌, List, [], ◌∷◌, ◌++◌, length, get_or, refl, ap, sym, ◌∙◌, subst, arith}
+use Rattle.std.specs.Prelude.{flat_map, slice_get}
+use Rattle.std.proofs.lemmas.List.{length-append, append_assoc, append-nil}
+use Rattle.std.proofs.lemmas.List.Elements.{All-append, All-weaker}
 use Rattle.flat_design.specs.declared.plan.Plan.{Plan}
 use Rattle.flat_design.specs.declared.plan.Step.{Step}
 use Rattle.flat_design.specs.declared.plan.Step.TheVariants as S
 use Rattle.flat_design.specs.declared.element.Element.{Element}
 use Rattle.flat_design.specs.declared.element.Flat.{Flat}
-use Rattle.flat_design.specs.Laying.{chosen, count_up, count_from, Lays, outs_of, stepped, steps_laid, body_laid, laid, flattened}
-use Rattle.flat_design.specs.FlatLaws.{total, sources_of, outs_count, makes, Below, IsFitting, AreSteps, IsPlan, ArePlans, sources_in, sinks_in, made_in, used_in, AreNumbered, IsFlatDesign, IsLaidOut, EachLaidOut, IsBalanced, StaysNumbered}
+use Rattle.flat_design.specs.Laying.{chosen, count_up, count_from, Lays, outs_of, stepped, steps_laid, laid}
+use Rattle.flat_design.specs.FlatLaws.{total, sources_of, outs_count, makes, Below, IsFitting, AreSteps, IsPlan, ArePlans, sources_in, sinks_in, made_in, used_in, AreNumbered, EachLaidOut, IsBalanced, StaysNumbered}
 use Rattle.flat_design.specs.FlatLaws.AreSteps.{none, more}
 use Rattle.flat_design.proofs.Laid.{laid_some}
 use Rattle.flat_design.proofs.Totals.{total-append, flat_map-append, total-chosen, chosen-append, chosen-front, below-chosen, length-chosen, length-count_up, below-count_up, total-whole, numbered-append, numbered-made}
@@ -19,7 +19,7 @@ pub record InnerLaw (plans : List Plan) (takes : ℕ → ℕ) (inner : Lays) (k 
   pub balanced : (body : ℕ) (given : List ℕ) (flat : Flat) → body < k → length given ≡ takes body → IsBalanced given flat (inner body given flat).0 (inner body given flat).1
   pub count : (body : ℕ) (given : List ℕ) (flat : Flat) → body < k → length given ≡ takes body → length (inner body given flat).0 ≡ outs_count (slice_get plans body)
   pub numbered : (servers body : ℕ) (given : List ℕ) (flat : Flat) → body < k → length given ≡ takes body → Below (length flat.widths) given → AreNumbered servers flat.elements (length flat.widths)
-    → StaysNumbered servers flat (inner body given flat).0 (inner body given flat).1
+      → StaysNumbered servers flat (inner body given flat).0 (inner body given flat).1
 
 -- ---- a step
 -- what a step leaves: more channels, and what is used and made
@@ -52,11 +52,10 @@ pub number_step : (plans : List Plan) (takes : ℕ → ℕ) (inner : Lays) (k se
     → Below (length flat.widths) made → AreNumbered servers flat.elements (length flat.widths) → StaysNumbered servers flat (stepped inner step made flat).0 (stepped inner step made flat).1
 number_step plans takes inner k servers (S.Element part sources widths) made flat law fits low given numbered = record {
   numbered = subst (λ n. AreNumbered servers (flat.elements ++ record { part = part; sources = chosen made sources; sinks = count_from (length flat.widths) widths } ∷ []) n) (sym longer)
-      (numbered-append servers (length flat.widths) (length flat.widths + length widths) flat.elements (record { part = part; sources = chosen made sources; sinks = count_from (length flat.widths) widths } ∷ []) numbered
-      (
+      (numbered-append servers (length flat.widths) (length flat.widths + length widths) flat.elements (record { part = part; sources = chosen made sources; sinks = count_from (length flat.widths) widths } ∷ []) numbered (
         ap (count_up (length flat.widths)) (sym (length-count_up (length flat.widths) (length widths))),
         below-chosen (length flat.widths) made sources given low,
-        ap (λ n. length flat.widths + n) (length-count_up (length flat.widths) (length widths))
+        ap (λ n. length flat.widths + n) (length-count_up (length flat.widths) (length widths)),
       ));
   handed = All-append (λ q. q < length (flat.widths ++ widths)) made (count_from (length flat.widths) widths)
       (All-weaker (λ q. q < length flat.widths) (λ q. q < length (flat.widths ++ widths)) (λ q lt. (let is = longer in omega arith)) made given)

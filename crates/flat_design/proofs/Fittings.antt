@@ -1,6 +1,5 @@
 -- Parts that fit their channels in the plans fit them in the flat list.
-use Rattle.std.proofs.Common.{◌≡◌, ℕ, zero, suc, ◌+◌, ◌-◌, ◌<◌, ◌≤◌, Bool, true, List, [], ◌∷◌, ◌++◌, Option, Some, None, length, map, get_or, refl, ap, sym, ◌∙◌, subst, arith}
-use Rattle.std.specs.Prelude.{All, slice_get}
+use Rattle.std.proofs.Common.{◌≡◌, ℕ, zero, suc, ◌+◌, ◌<◌, ◌≤◌, true, List, [], ◌∷◌, ◌++◌, length, map, get_or, refl, ap, sym, ◌∙◌, subst, arith}
 use Rattle.std.proofs.lemmas.List.{append_assoc, append-nil, length-append, length-map, map-append, get_or_append_left, get_or-append-add, get_or-map}
 use Rattle.std.proofs.lemmas.List.Elements.{All-head, All-tail, All-weaker}
 use Rattle.flat_design.specs.declared.plan.Plan.{Plan}
@@ -8,10 +7,10 @@ use Rattle.flat_design.specs.declared.plan.Step.{Step}
 use Rattle.flat_design.specs.declared.plan.Step.TheVariants as S
 use Rattle.flat_design.specs.declared.element.Element.{Element}
 use Rattle.flat_design.specs.declared.element.Flat.{Flat}
-use Rattle.flat_design.specs.Laying.{chosen, count_up, count_from, Lays, outs_of, stepped, steps_laid, laid, flattened}
-use Rattle.flat_design.specs.FlatLaws.{sources_of, makes, Below, IsFitting, AreSteps, IsPlan, ArePlans, AreNumbered}
+use Rattle.flat_design.specs.Laying.{chosen, count_up, count_from, Lays, outs_of, stepped, steps_laid, laid}
+use Rattle.flat_design.specs.FlatLaws.{makes, Below, AreSteps, IsPlan, ArePlans, AreNumbered}
 use Rattle.flat_design.specs.FlatLaws.AreSteps.{none, more}
-use Rattle.flat_design.specs.Fitting.{Known, width_of, nothing, at_places, Test, AreFitting, IsFittingPlan, AreFittingPlans, AllFit, IsFittingFlat, EachFits}
+use Rattle.flat_design.specs.Fitting.{Known, width_of, nothing, at_places, Test, AreFitting, IsFittingPlan, AreFittingPlans, AllFit, EachFits}
 use Rattle.flat_design.specs.Fitting.AreFitting.{done, element, «instance»}
 use Rattle.flat_design.proofs.Laid.{laid_some}
 use Rattle.flat_design.proofs.Totals.{below-chosen, length-chosen, length-count_up, below-count_up, numbered-count}
@@ -43,9 +42,9 @@ at-last known (x ∷ made) =
     ap (λ q. q ∷ at_places (known ++ x ∷ made) (count_up (length known + 1) (length made))) here
     ∙ ap (λ r. x ∷ r)
     (
-      ap (λ n. at_places (known ++ x ∷ made) (count_up n (length made))) one
-      ∙ ap (λ k. at_places k (count_up (length (known ++ x ∷ [])) (length made))) (sym (append_assoc known (x ∷ []) made))
-      ∙ at-last (known ++ x ∷ []) made
+    ap (λ n. at_places (known ++ x ∷ made) (count_up n (length made))) one
+    ∙ ap (λ k. at_places k (count_up (length (known ++ x ∷ [])) (length made))) (sym (append_assoc known (x ∷ []) made))
+    ∙ at-last (known ++ x ∷ []) made
     )
 
 -- ---- elements fit also where more channels follow
@@ -54,10 +53,9 @@ fit-more test known later n m [] numbered k f = tt
 fit-more test known later n m (e ∷ es) numbered k f =
     let count = numbered-count (n + length e.sinks) m es numbered.2 in
     let sources : Below (length known) e.sources = All-weaker (λ q. q < n) (λ q. q < length known) (λ q lt. (let a = count in omega (arith, k))) e.sources numbered.1 in
-    let sinks : Below (length known) e.sinks = subst (λ s. Below (length known) s) (sym numbered.0) (below-count_up n (length e.sinks) (length known) (omega (arith, k))) in
-    (
+    let sinks : Below (length known) e.sinks = subst (λ s. Below (length known) s) (sym numbered.0) (below-count_up n (length e.sinks) (length known) (omega (arith, k))) in (
       ap (λ s. test e.part s (at_places (known ++ later) e.sinks)) (at-front known later e.sources sources) ∙ ap (test e.part (at_places known e.sources)) (at-front known later e.sinks sinks) ∙ f.0,
-      fit-more test known later (n + length e.sinks) m es numbered.2 k f.1
+      fit-more test known later (n + length e.sinks) m es numbered.2 k f.1,
     )
 
 fit-append : (test : Test) (known : List Known) (es fs : List Element) → AllFit test known es → AllFit test known fs → AllFit test known (es ++ fs)
@@ -82,7 +80,7 @@ pub record GrowsKnown (test : Test) (servers : ℕ) (known : List Known) (outs :
 -- What is known of bodies before number k.
 pub record InnerFits (test : Test) (given outs : ℕ → List Known) (takes : ℕ → ℕ) (inner : Lays) (k : ℕ) : Type 0 where
   pub fits : (servers body : ℕ) (places : List ℕ) (known : List Known) (flat : Flat) → body < k → length places ≡ takes body → Below (length flat.widths) places → IsKnown test servers known flat → at_places known places ≡ given body
-    → GrowsKnown test servers known (inner body places flat).0 (outs body) (inner body places flat).1
+      → GrowsKnown test servers known (inner body places flat).0 (outs body) (inner body places flat).1
 
 -- first some channels more, then others
 two_grow : (test : Test) (servers : ℕ) (known new : List Known) (outs : List ℕ) (handed : List Known) (after : Flat) → GrowsKnown test servers (known ++ new) outs handed after → GrowsKnown test servers known outs handed after
@@ -129,7 +127,7 @@ instance_fits test given outs takes inner k servers body sources made local know
     let count = known_count test servers known flat is in
     let low_known : Below (length known) made = subst (λ n. Below n made) (sym count) low in
     let inside = fit.fits servers body (chosen made sources) known flat fits.0 (length-chosen made sources ∙ fits.1) (below-chosen (length flat.widths) made sources low within) is
-        (at-chosen known made sources within ∙ ap (λ k. at_places k sources) at ∙ gives) in
+    (at-chosen known made sources within ∙ ap (λ k. at_places k sources) at ∙ gives) in
     record {
       new = inside.new;
       all = inside.all;
@@ -180,10 +178,10 @@ plan_fits test given outs plans takes inner k servers plan places known flat law
     }
 
 fewer_fit : (test : Test) (given outs : ℕ → List Known) (takes : ℕ → ℕ) (inner : Lays) (k body : ℕ) → body ≤ k → InnerFits test given outs takes inner k → InnerFits test given outs takes inner body
-fewer_fit test given outs takes inner k body le fit = record { fits = λ servers b places known flat lt count low is at. fit.fits servers b places known flat (omega arith) count low is at; }
+fewer_fit test given outs takes inner k body le fit = record { fits = λ servers b places known flat lt count low is at. fit.fits servers b places known flat (omega arith) count low is at }
 
 level_fits : (test : Test) (given outs : ℕ → List Known) (plans : List Plan) (takes : ℕ → ℕ) → ArePlans plans takes → AreFittingPlans test given outs plans → (levels : ℕ) → levels ≤ length plans → InnerFits test given outs takes (laid plans levels) levels
-level_fits test given outs plans takes good fitting zero le = record { fits = λ servers body places known flat lt count low is at. absurd (omega arith); }
+level_fits test given outs plans takes good fitting zero le = record { fits = λ servers body places known flat lt count low is at. absurd (omega arith) }
 level_fits test given outs plans takes good fitting (suc levels) le = record {
   fits = λ servers body places known flat lt count low is at.
       let there = good.each body (omega arith) in
@@ -203,5 +201,5 @@ each_fits test given outs plans takes good fitting counts top lt =
     let begin : IsKnown test (length widths) (given top) empty = record { widths = refl; numbered = refl; fit = tt } in
     let at : at_places (given top) places ≡ given top = ap (λ n. at_places (given top) (count_up 0 n)) many ∙ at-last [] (given top) in
     let all = (level_fits test given outs plans takes good fitting (length plans) (omega arith)).fits (length widths) top places (given top) empty lt (length-count_up 0 (length widths) ∙ many ∙ counts top)
-        (below-count_up 0 (length widths) (length widths) (omega arith)) begin at in
+    (below-count_up 0 (length widths) (length widths) (omega arith)) begin at in
     record { known = given top ++ all.new; made = all.new; begins = refl; widths = all.all.widths; fit = all.all.fit; handed = all.at_outs }

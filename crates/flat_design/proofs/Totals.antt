@@ -1,8 +1,8 @@
 -- Sums over lists of channels.
-use Rattle.std.proofs.Common.{◌≡◌, ℕ, zero, suc, ◌+◌, ◌-◌, ◌<◌, ◌≤◌, List, [], ◌∷◌, ◌++◌, length, get_or, map, refl, ap, sym, ◌∙◌, subst, arith}
-use Rattle.std.specs.Prelude.{All, flat_map}
-use Rattle.std.proofs.lemmas.List.{length_push, length-append, append_assoc, append-nil, get_or_append_left, get_or-append-add}
-use Rattle.std.proofs.lemmas.List.Elements.{All-head, All-tail, All-nil, All-cons, All-append, All-weaker}
+use Rattle.std.proofs.Common.{◌≡◌, ℕ, zero, suc, ◌+◌, ◌<◌, ◌≤◌, List, [], ◌∷◌, ◌++◌, length, get_or, refl, ap, sym, ◌∙◌, subst, arith}
+use Rattle.std.specs.Prelude.{flat_map}
+use Rattle.std.proofs.lemmas.List.{length_push, append_assoc, get_or_append_left, get_or-append-add}
+use Rattle.std.proofs.lemmas.List.Elements.{All-head, All-tail, All-nil, All-cons}
 use Rattle.flat_design.specs.declared.element.Element.{Element}
 use Rattle.flat_design.specs.Laying.{chosen, count_up}
 use Rattle.flat_design.specs.FlatLaws.{total, Below, AreNumbered}
@@ -70,7 +70,7 @@ total-whole f front (x ∷ made) =
     let more = total-whole f (front ++ x ∷ []) made in
     let moved : total (λ place. f (get_or (front ++ x ∷ made) place 0)) (count_up (length front + 1) (length made)) ≡ total f made
     = ap (λ xs. total (λ place. f (get_or xs place 0)) (count_up (length front + 1) (length made))) shift
-        ∙ ap (λ n. total (λ place. f (get_or ((front ++ x ∷ []) ++ made) place 0)) (count_up n (length made))) (sym (length_push front x)) ∙ more in
+    ∙ ap (λ n. total (λ place. f (get_or ((front ++ x ∷ []) ++ made) place 0)) (count_up n (length made))) (sym (length_push front x)) ∙ more in
     ap (λ n. f n + total (λ place. f (get_or (front ++ x ∷ made) place 0)) (count_up (length front + 1) (length made))) here
     ∙ ap (λ n. f x + n) moved
 

@@ -32,9 +32,9 @@ Test = ℕ → List Known → List Known → Bool
 pub data AreFitting (test : Test) (given outs : ℕ → List Known) : List Known → List Step → List Known → Type 0 where
   done : (known : List Known) → AreFitting test given outs known [] known
   element : (known made all : List Known) (part : ℕ) (sources widths : List ℕ) (steps : List Step) → map width_of made ≡ widths → test part (at_places known sources) made ≡ true
-    → AreFitting test given outs (known ++ made) steps all → AreFitting test given outs known (S.Element part sources widths ∷ steps) all
+      → AreFitting test given outs (known ++ made) steps all → AreFitting test given outs known (S.Element part sources widths ∷ steps) all
   «instance» : (known all : List Known) (body : ℕ) (sources : List ℕ) (steps : List Step) → at_places known sources ≡ given body
-    → AreFitting test given outs (known ++ outs body) steps all → AreFitting test given outs known (S.Instance body sources ∷ steps) all
+      → AreFitting test given outs (known ++ outs body) steps all → AreFitting test given outs known (S.Instance body sources ∷ steps) all
 
 -- A plan whose parts fit, given channels and handing out channels of which so much is known.
 pub record IsFittingPlan (test : Test) (given outs : ℕ → List Known) (k : ℕ) (plan : Plan) : Type 0 where

@@ -40,7 +40,7 @@ IsFitting takes k (S.Instance body sources) = (body < k) × (length sources ≡ 
 pub data AreSteps (plans : List Plan) (takes : ℕ → ℕ) (k : ℕ) : ℕ → List Step → ℕ → Type 0 where
   none : (n : ℕ) → AreSteps plans takes k n [] n
   more : (n m : ℕ) (step : Step) (steps : List Step) → Below n (sources_of step) → IsFitting takes k step → AreSteps plans takes k (n + makes plans step) steps m
-    → AreSteps plans takes k n (step ∷ steps) m
+      → AreSteps plans takes k n (step ∷ steps) m
 
 -- Plan number k: each of its channels is used once, as a source of a step or handed out. "Once" is said of sums: whatever is
 -- summed over all channels is also its sum over all their uses.

@@ -3,7 +3,6 @@ use Rattle.std.specs.Prelude.{ℕ, zero, suc, ◌+◌, List, [], ◌∷◌, ◌+
 use Rattle.flat_design.specs.declared.plan.Plan.{Plan}
 use Rattle.flat_design.specs.declared.plan.Step.{Step}
 use Rattle.flat_design.specs.declared.plan.Step.TheVariants as S
-use Rattle.flat_design.specs.declared.element.Element.{Element}
 use Rattle.flat_design.specs.declared.element.Flat.{Flat}
 
 -- the channels at some places

@@ -94,8 +94,19 @@ fn lay_step(
     ensures { OnOk result ((made.new, flat.new) ≡ stepped (laid plans.now levels) step.now made.old flat.old) }
 {
     match step {
-        Step::Element { part, sources, widths } => {
-            add_element(alloc, *part, sources.as_slice(), widths.as_slice(), made, flat)
+        Step::Element {
+            part,
+            sources,
+            widths,
+        } => {
+            add_element(
+                alloc,
+                *part,
+                sources.as_slice(),
+                widths.as_slice(),
+                made,
+                flat,
+            )
         }
         Step::Instance { body, sources } => {
             let given = choose(alloc, made.as_slice(), sources.as_slice())?;

@@ -1,11 +1,10 @@
-use Rattle.std.proofs.Common.{◌≡◌, ℕ, suc, ◌-◌, List, Some, IfOk, sym, ◌∙◌, ap, arith}
+use Rattle.std.proofs.Common.{◌≡◌, ℕ, ◌-◌, List, Some, ◌∙◌, ap, arith}
 use Rattle.std.specs.Prelude.{slice_get}
 use Rattle.std.proofs.lemmas.Grind.{common_steps}
 use Rattle.std.proofs.lemmas.Option.{gets}
 use Rattle.std.proofs.lemmas.Result.{IfOk-weaker}
-use Rattle.flat_design.specs.declared.plan.Plan.{Plan}
 use Rattle.flat_design.specs.declared.element.Flat.{Flat}
-use Rattle.flat_design.specs.Laying.{chosen, outs_of, steps_laid, laid}
+use Rattle.flat_design.specs.Laying.{steps_laid, laid}
 use Rattle.flat_design.proofs.Laid.{laid_some, handed_out}
 use Rattle.flat_design.proofs.laying.+lay.Goals as goal
 
