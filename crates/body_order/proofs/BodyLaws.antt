@@ -1,8 +1,8 @@
 -- From the rules of a design to its bodies.
-use Rattle.std.proofs.Common.{◌≡◌, ℕ, zero, suc, ◌+◌, ◌<◌, Bool, true, false, List, [], ◌∷◌, ◌++◌, Option, Some, None, map, length, get_or, refl, ap, sym, ◌∙◌, subst, inl, inr, arith}
-use Rattle.std.specs.Prelude.{◌||◌, ◌↔◌, flat_map, filter, Contains, if◌then◌else◌, slice_get, option_to_list}
+use Rattle.std.proofs.Common.{◌≡◌, ℕ, Bool, true, false, List, [], ◌∷◌, ◌++◌, map, refl, ap, sym, ◌∙◌, subst, inl, inr, arith}
+use Rattle.std.specs.Prelude.{flat_map, filter, Contains, if◌then◌else◌}
 use Rattle.std.proofs.lemmas.Bool.{false≢true, cases_Bool, or_left, or_right, or_cases}
-use Rattle.std.proofs.lemmas.List.{append_assoc, map-append}
+use Rattle.std.proofs.lemmas.List.{map-append}
 use Rattle.std.proofs.lemmas.List.Elements.{Contains-append_right, Contains-append_left}
 use Rattle.design_tree.specs.declared.leaves.Name.{Name}
 use Rattle.design_tree.specs.declared.leaves.Reference.{Reference}
@@ -12,22 +12,20 @@ use Rattle.design_tree.specs.declared.statements.Statement.TheVariants as S
 use Rattle.design_tree.specs.declared.declarations.Declaration.{Declaration}
 use Rattle.name_tables.specs.Labels.{Label, Occurrence, label_at, same_label}
 use Rattle.name_tables.specs.Lists.{stands}
-use Rattle.name_tables.specs.ListLaws.{stands-append, stands_contains}
 use Rattle.name_tables.specs.PlaceLaws.{contains_here, contains_later, contains_cases}
 use Rattle.name_tables.specs.LabelLaws.{same_label-one}
 use Rattle.name_tables.specs.Repeats.{IsRepeat}
-use Rattle.name_tables.specs.FirstPlaces.{Nowhere}
 use Rattle.element_order.specs.Laws.{Depends}
 use Rattle.element_order.specs.Orders.{ordered}
 use Rattle.check_rules.specs.Scopes.{Scope}
 use Rattle.check_rules.specs.References.{named, id_named, channels_of, sources_of, reference_place, is_among}
-use Rattle.check_rules.specs.DeclaredTwice.{BreaksDeclaredTwice, IsRepeatInOne, declaration_named, declaration_spaces, scope_spaces, port_named, ids_of, statement_spaces}
-use Rattle.check_rules.specs.Dependencies.{is_element, elements_of, needs, BreaksDependencies}
+use Rattle.check_rules.specs.DeclaredTwice.{BreaksDeclaredTwice, declaration_named, declaration_spaces, scope_spaces, port_named, ids_of, statement_spaces}
+use Rattle.check_rules.specs.Dependencies.{elements_of}
 use Rattle.check_rules.specs.Signalling.{gives_fifo, named_fifo, is_fifo, differ, takes_fifo, wrong_signalling, is_drive, in_order}
-use Rattle.body_order.specs.Makers.{name_label, first_needs, channel_labels, instance_labels_of, instance_labels}
-use Rattle.body_order.specs.Cycles.{BreaksCycle, AreApart, AreOnce}
-use Rattle.body_order.specs.Signals.{has_fifo, wrong_source, wrong_sources, numbered, wrong_signals}
-use Rattle.body_order.specs.BodyLaws.{EachOnce, BreaksInOne, EachCycle, EachSignal}
+use Rattle.body_order.specs.Makers.{name_label, channel_labels, instance_labels}
+use Rattle.body_order.specs.Cycles.{AreApart}
+use Rattle.body_order.specs.Signals.{has_fifo, wrong_source, wrong_sources, numbered}
+use Rattle.body_order.specs.BodyLaws.{EachOnce, EachCycle, EachSignal}
 use Rattle.body_order.proofs.CycleLaws.{each_needs}
 
 -- ---- names that stand nowhere twice are apart
@@ -56,12 +54,12 @@ repeat_more o names at r = record { before = o ∷ r.before; earlier = r.earlier
 apart_names : (names : List Occurrence) → ((at : ℕ) → IsRepeat names at → ⊥) → AreApart (map label_at names)
 apart_names [] h = tt
 apart_names (o ∷ names) h = (
-    elim (cases_Bool (stands o.label (map label_at names))) [
-      | inl t ↦ let one = later_one o.label names t in absurd (h one.later.at (later_repeat o names one))
-      | inr f ↦ f
-    ],
-    apart_names names (λ at r. h at (repeat_more o names at r))
-  )
+  elim (cases_Bool (stands o.label (map label_at names))) [
+    | inl t ↦ let one = later_one o.label names t in absurd (h one.later.at (later_repeat o names one))
+    | inr f ↦ f
+  ],
+  apart_names names (λ at r. h at (repeat_more o names at r)),
+)
 
 -- ---- fewer names are apart too
 apart_after : (xs ys : List Label) → AreApart (xs ++ ys) → AreApart ys
@@ -142,27 +140,27 @@ each_once declarations bodies kept body one =
 -- ---- cycles
 pub each_cycle : EachCycle
 each_cycle bodies once at = (
-    λ b. record {
-      body = b.scope;
-      one = b.one;
-      breaks = record {
-        element = b.element;
-        number = b.number;
-        numbered = b.numbered;
-        itself = subst (λ m. Depends m b.number b.number) (each_needs (elements_of b.scope.statements) (once b.scope b.one)) b.itself;
-        stands = b.stands;
-      };
-    },
-    λ b. record {
-      scope = b.body;
-      one = b.one;
-      element = b.breaks.element;
-      number = b.breaks.number;
-      numbered = b.breaks.numbered;
-      itself = subst (λ m. Depends m b.breaks.number b.breaks.number) (sym (each_needs (elements_of b.body.statements) (once b.body b.one))) b.breaks.itself;
-      stands = b.breaks.stands;
-    }
-  )
+  λ b. record {
+    body = b.scope;
+    one = b.one;
+    breaks = record {
+      element = b.element;
+      number = b.number;
+      numbered = b.numbered;
+      itself = subst (λ m. Depends m b.number b.number) (each_needs (elements_of b.scope.statements) (once b.scope b.one)) b.itself;
+      stands = b.stands;
+    };
+  },
+  λ b. record {
+    scope = b.body;
+    one = b.one;
+    element = b.breaks.element;
+    number = b.breaks.number;
+    numbered = b.breaks.numbered;
+    itself = subst (λ m. Depends m b.breaks.number b.breaks.number) (sym (each_needs (elements_of b.body.statements) (once b.body b.one))) b.breaks.itself;
+    stands = b.breaks.stands;
+  },
+)
 
 -- ---- signalling
 fifo_elements : (name : Name) (ss : List Statement) → named_fifo name ss ≡ named_fifo name (elements_of ss)

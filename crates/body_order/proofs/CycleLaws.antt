@@ -1,6 +1,6 @@
 -- The first element on a cycle is the first break; and where names are declared once, what elements need are all makers.
-use Rattle.std.proofs.Common.{◌≡◌, ℕ, zero, suc, ◌+◌, ◌<◌, ◌≤◌, Bool, true, false, List, [], ◌∷◌, ◌++◌, Option, Some, None, map, length, get_or, refl, ap, sym, ◌∙◌, subst, inl, inr, arith}
-use Rattle.std.specs.Prelude.{◌||◌, flat_map, slice_get, option_to_list, if◌then◌else◌}
+use Rattle.std.proofs.Common.{◌≡◌, ℕ, zero, suc, ◌+◌, ◌<◌, true, false, List, [], ◌∷◌, ◌++◌, Option, Some, None, map, length, get_or, refl, ap, sym, ◌∙◌, subst, inl, inr, arith}
+use Rattle.std.specs.Prelude.{flat_map, slice_get, option_to_list, if◌then◌else◌}
 use Rattle.std.proofs.lemmas.Bool.{false≢true, cases_Bool, or_cases, or_parts}
 use Rattle.std.proofs.lemmas.List.{length-map}
 use Rattle.std.proofs.lemmas.Option.{slice_get_within}
@@ -11,11 +11,11 @@ use Rattle.name_tables.specs.Labels.{Label, same_label}
 use Rattle.name_tables.specs.Lists.{stands}
 use Rattle.name_tables.specs.ListLaws.{stands-append}
 use Rattle.name_tables.specs.LabelLaws.{same_label-one}
-use Rattle.name_tables.specs.FirstPlaces.{IsFirstPlace, Reports}
-use Rattle.element_order.specs.Laws.{Depends, IsFirstOnCycle, TellsFirst}
+use Rattle.name_tables.specs.FirstPlaces.{Reports}
+use Rattle.element_order.specs.Laws.{Depends, TellsFirst}
 use Rattle.check_rules.specs.References.{statement_place, sources_of, channels_of, id_named}
-use Rattle.check_rules.specs.Dependencies.{makes, makers, needs}
-use Rattle.body_order.specs.Makers.{name_label, maker_from, maker, needs_of_sources, first_needs, channel_labels, instance_labels_of, instance_labels}
+use Rattle.check_rules.specs.Dependencies.{makers}
+use Rattle.body_order.specs.Makers.{name_label, maker_from, maker, needs_of_sources, first_needs, instance_labels_of}
 use Rattle.body_order.specs.Cycles.{BreaksCycle, AreApart, AreOnce, EachNeeds}
 use Rattle.body_order.proofs.MakerLaws.{IsNamed, channel_named, instance_named}
 

@@ -1,8 +1,7 @@
 -- What the tables find is the first element that makes the name.
-use Rattle.std.proofs.Common.{◌≡◌, ℕ, zero, suc, ◌+◌, ◌<◌, Bool, true, false, List, [], ◌∷◌, ◌++◌, Option, Some, None, map, length, get_or, refl, ap, sym, ◌∙◌, subst, inl, inr, arith, eqb}
-use Rattle.std.specs.Prelude.{◌||◌, ◌&&◌, flat_map, replicate, option_map, if◌then◌else◌, bytes_eq}
-use Rattle.std.specs.List.{list_any}
-use Rattle.std.proofs.lemmas.Bool.{false≢true, cases_Bool, or_cases, or_parts}
+use Rattle.std.proofs.Common.{◌≡◌, ℕ, suc, ◌+◌, ◌<◌, Bool, true, false, List, [], ◌∷◌, ◌++◌, Some, map, length, get_or, refl, ap, sym, ◌∙◌, inl, inr, arith}
+use Rattle.std.specs.Prelude.{◌||◌, flat_map, replicate, if◌then◌else◌}
+use Rattle.std.proofs.lemmas.Bool.{false≢true, cases_Bool, or_parts}
 use Rattle.std.proofs.lemmas.List.{append_assoc, length-append, length-map, length-replicate, get_or-append-add, get_or_append_left, get_or-replicate}
 use Rattle.design_tree.specs.declared.leaves.Name.{Name}
 use Rattle.design_tree.specs.declared.leaves.ApplicationId.{ApplicationId}
@@ -10,10 +9,10 @@ use Rattle.design_tree.specs.declared.leaves.Reference.{Reference}
 use Rattle.design_tree.specs.declared.leaves.Reference.TheVariants as R
 use Rattle.design_tree.specs.declared.statements.Statement.{Statement}
 use Rattle.design_tree.specs.declared.statements.Statement.TheVariants as S
-use Rattle.name_tables.specs.Labels.{Label, same_label, same_index}
+use Rattle.name_tables.specs.Labels.{Label, same_label}
 use Rattle.name_tables.specs.Lists.{stands, index_from, index_in}
 use Rattle.check_rules.specs.Scopes.{is_name, is_id}
-use Rattle.check_rules.specs.References.{named, id_named, channels_of, is_among}
+use Rattle.check_rules.specs.References.{id_named, channels_of, is_among}
 use Rattle.check_rules.specs.Dependencies.{makes}
 use Rattle.body_order.specs.Makers.{maker_from, maker, name_label, channel_labels, makers_by, channel_makers, instance_labels_of, instance_labels, instance_makers, maker_at}
 
@@ -28,10 +27,10 @@ index_here label j [] ys e = absurd (false≢true e)
 index_here label j (x ∷ xs) ys e =
     elim (cases_Bool (same_label label x)) [
       | inl t ↦ record {
-          index = 0;
-          low = omega arith;
-          found = ap (λ b. if b then Some j else index_from label (j + 1) (xs ++ ys)) t ∙ (let z : j ≡ j + 0 = omega arith in ap Some z);
-        }
+        index = 0;
+        low = omega arith;
+        found = ap (λ b. if b then Some j else index_from label (j + 1) (xs ++ ys)) t ∙ (let z : j ≡ j + 0 = omega arith in ap Some z);
+      }
       | inr f ↦
           let more = index_here label (j + 1) xs ys (ap (λ b. b || stands label xs) (sym f) ∙ e) in
           record {
@@ -64,13 +63,13 @@ found_from labels_of count label r n (e ∷ es) i j front is =
           let many = n.counted e in
           let place : get_or (front ++ (replicate (count e) i ++ makers_by count (i + 1) es)) (j + at.index) 0 ≡ i
           = ap (λ k. get_or (front ++ (replicate (count e) i ++ makers_by count (i + 1) es)) (k + at.index) 0) (sym is)
-              ∙ get_or-append-add front (replicate (count e) i ++ makers_by count (i + 1) es) at.index 0
-              ∙ get_or_append_left (replicate (count e) i) (makers_by count (i + 1) es) 0 at.index (let l = length-replicate (count e) i in omega arith)
-              ∙ get_or-replicate (count e) at.index i 0 (omega arith) in
+          ∙ get_or-append-add front (replicate (count e) i ++ makers_by count (i + 1) es) at.index 0
+          ∙ get_or_append_left (replicate (count e) i) (makers_by count (i + 1) es) 0 at.index (let l = length-replicate (count e) i in omega arith)
+          ∙ get_or-replicate (count e) at.index i 0 (omega arith) in
           ap (maker_at (front ++ (replicate (count e) i ++ makers_by count (i + 1) es))) at.found ∙ ap Some place ∙ ap (λ b. if b then Some i else maker_from r (i + 1) es) (sym (n.same e ∙ t))
       | inr f ↦
           let more = found_from labels_of count label r n es (i + 1) (j + length (labels_of e)) (front ++ replicate (count e) i)
-              (length-append front (replicate (count e) i) ∙ (let l = length-replicate (count e) i in let many = n.counted e in omega arith)) in
+          (length-append front (replicate (count e) i) ∙ (let l = length-replicate (count e) i in let many = n.counted e in omega arith)) in
           ap (maker_at (front ++ (replicate (count e) i ++ makers_by count (i + 1) es))) (index_later label j (labels_of e) (flat_map labels_of es) f)
           ∙ ap (λ xs. maker_at xs (index_from label (j + length (labels_of e)) (flat_map labels_of es))) (sym (append_assoc front (replicate (count e) i) (makers_by count (i + 1) es)))
           ∙ more ∙ ap (λ b. if b then Some i else maker_from r (i + 1) es) (sym (n.same e ∙ f))

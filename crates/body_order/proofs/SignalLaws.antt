@@ -1,8 +1,8 @@
 -- The first of some places, and the signalling of what is found.
-use Rattle.std.proofs.Common.{◌≡◌, ℕ, zero, suc, ◌+◌, Bool, true, false, List, [], ◌∷◌, ◌++◌, Option, Some, None, map, length, refl, ap, sym, ◌∙◌, subst, inl, inr, arith}
+use Rattle.std.proofs.Common.{◌≡◌, ℕ, ◌+◌, List, [], ◌∷◌, ◌++◌, Option, Some, None, length, refl, ap, sym, ◌∙◌, inl, inr}
 use Rattle.std.specs.Prelude.{flat_map, slice_get, if◌then◌else◌}
 use Rattle.std.proofs.lemmas.Bool.{cases_Bool}
-use Rattle.std.proofs.lemmas.List.{append_assoc, length_push, append-nil}
+use Rattle.std.proofs.lemmas.List.{append_assoc, length_push}
 use Rattle.design_tree.specs.declared.leaves.Name.{Name}
 use Rattle.design_tree.specs.declared.leaves.Reference.TheVariants as R
 use Rattle.design_tree.specs.declared.statements.Statement.{Statement}

@@ -1,6 +1,5 @@
 -- What is found in each body is what the rules say of the design.
 use Rattle.std.specs.Prelude.{◌≡◌, ℕ, ◌↔◌, List, Contains, flat_map}
-use Rattle.design_tree.specs.declared.statements.Statement.{Statement}
 use Rattle.name_tables.specs.FirstPlaces.{Nowhere}
 use Rattle.design_tree.specs.declared.declarations.Declaration.{Declaration}
 use Rattle.element_order.specs.Orders.{ordered}

@@ -1,5 +1,5 @@
 -- Elements of a body that depend on themselves.
-use Rattle.std.specs.Prelude.{◌≡◌, ℕ, Bool, true, false, Option, Some, None, List, [], ◌∷◌, map, slice_get}
+use Rattle.std.specs.Prelude.{◌≡◌, ℕ, false, Some, List, [], ◌∷◌, slice_get}
 use Rattle.design_tree.specs.declared.statements.Statement.{Statement}
 use Rattle.name_tables.specs.Labels.{Label}
 use Rattle.name_tables.specs.Lists.{stands}

@@ -191,10 +191,7 @@ impl<'a> Makers<'a> {
 }
 
 /// The names of the channels that elements make.
-fn made_channels<'a>(
-    alloc: Global,
-    elements: &[&'a Statement],
-) -> Result<Makers<'a>, NoMemory>
+fn made_channels<'a>(alloc: Global, elements: &[&'a Statement]) -> Result<Makers<'a>, NoMemory>
     ensures names { IfOk result (λ made. made.names ≡ channel_labels (referred elements.now)) }
     ensures makers { IfOk result (λ made. made.makers.items ≡ channel_makers 0 (referred elements.now)) }
 {
@@ -218,9 +215,10 @@ fn add_channels<'a>(
     ensures makers { OnOk result (makers.new.items ≡ makers.old.items ++ replicate (length (channels_of element.now)) number) }
 {
     match element {
-        Statement::Channels { names: channels, .. } => {
-            add_names(names, makers, channels.as_slice(), number)
-        }
+        Statement::Channels {
+            names: channels,
+            ..
+        } => { add_names(names, makers, channels.as_slice(), number) }
         Statement::Request { .. } | Statement::Instance { .. } | Statement::Drive { .. } => Ok(()),
     }
 }
@@ -243,10 +241,7 @@ fn add_names<'a>(
 }
 
 /// The application ids of the instances.
-fn made_instances<'a>(
-    alloc: Global,
-    elements: &[&'a Statement],
-) -> Result<Makers<'a>, NoMemory>
+fn made_instances<'a>(alloc: Global, elements: &[&'a Statement]) -> Result<Makers<'a>, NoMemory>
     ensures names { IfOk result (λ made. made.names ≡ instance_labels (referred elements.now)) }
     ensures makers { IfOk result (λ made. made.makers.items ≡ instance_makers 0 (referred elements.now)) }
 {

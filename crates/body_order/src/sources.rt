@@ -16,7 +16,18 @@ pub fn operation_sources<'a>(operation: &'a Operation) -> (&'a Reference, Option
         Operation::Buffer { stages: _, source } => (source, None),
         Operation::Fifo { depth: _, source } => (source, None),
         Operation::Join { left, right } => (left, Some(right)),
-        Operation::Map { source, variable: _, body: _ } => (source, None),
-        Operation::Scan { source, state: _, ty: _, initial: _, variable: _, body: _ } => (source, None),
+        Operation::Map {
+            source,
+            variable: _,
+            body: _,
+        } => (source, None),
+        Operation::Scan {
+            source,
+            state: _,
+            ty: _,
+            initial: _,
+            variable: _,
+            body: _,
+        } => (source, None),
     }
 }

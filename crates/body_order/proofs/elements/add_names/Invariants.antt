@@ -1,9 +1,7 @@
-use Rattle.std.proofs.Common.{◌≡◌, ◌++◌, map, take, drop, length}
+use Rattle.std.proofs.Common.{◌≡◌, ◌++◌, map, take}
 use Rattle.std.specs.Prelude.{replicate}
 use Rattle.name_tables.specs.Keys.{label_of}
-use Rattle.check_rules.specs.Dependencies.{elements_of}
-use Rattle.check_rules.specs.References.{binding_source, sources_of}
-use Rattle.body_order.specs.Makers.{referred, first_needs, needs_of_sources, name_label, channel_labels, channel_makers, instance_labels, instance_makers}
+use Rattle.body_order.specs.Makers.{name_label}
 use Rattle.body_order.proofs.elements.add_names.Given as goal
 
 abbrev pub invariant-loop-channel : goal.invariant-loop-channel

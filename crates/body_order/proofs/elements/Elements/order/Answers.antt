@@ -1,4 +1,4 @@
-use Rattle.std.proofs.Common.{◌≡◌, length, subst, sym, ◌∙◌}
+use Rattle.std.proofs.Common.{length, subst, sym, ◌∙◌}
 use Rattle.std.specs.Prelude.{All}
 use Rattle.element_order.specs.Orders.{AllBelow}
 use Rattle.body_order.proofs.NeedLaws.{needs_below}

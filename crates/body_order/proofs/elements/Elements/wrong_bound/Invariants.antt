@@ -1,9 +1,7 @@
-use Rattle.std.proofs.Common.{◌≡◌, ◌++◌, map, take, false}
-use Rattle.std.specs.Prelude.{filter, flat_map}
+use Rattle.std.proofs.Common.{◌≡◌, map, take, false}
+use Rattle.std.specs.Prelude.{flat_map}
 use Rattle.check_rules.specs.References.{binding_source}
-use Rattle.check_rules.specs.Signalling.{is_drive}
-use Rattle.body_order.specs.Makers.{referred}
-use Rattle.body_order.specs.Signals.{first_of, or_else, wrong_source, wrong_sources, numbered}
+use Rattle.body_order.specs.Signals.{first_of, or_else, wrong_source}
 use Rattle.body_order.proofs.elements.Elements.wrong_bound.Given as goal
 
 abbrev pub invariant-loop-binding : goal.invariant-loop-binding
