@@ -1,12 +1,10 @@
 -- Numbers that stand in a list, and how often.
-use Rattle.std.proofs.Common.{◌≡◌, ℕ, zero, suc, ◌+◌, ◌<◌, ◌≤◌, ◌==◌, Bool, true, false, cond, not, List, [], ◌∷◌, ◌++◌, Option, Some, None, length, get_or, refl, ap, sym, ◌∙◌, subst, inl, inr, ⊎_elim, arith, eqb, ltb}
-use Rattle.std.specs.Prelude.{◌||◌, ◌&&◌, if◌then◌else◌, All, nat_lt}
-use Rattle.std.specs.List.{list_any}
+use Rattle.std.proofs.Common.{◌≡◌, ℕ, zero, suc, ◌+◌, ◌<◌, ◌≤◌, ◌==◌, Bool, true, false, cond, List, [], ◌∷◌, ◌++◌, Some, None, length, refl, ap, sym, ◌∙◌, subst, inl, inr, arith, eqb}
+use Rattle.std.specs.Prelude.{◌||◌, ◌&&◌, if◌then◌else◌}
 use Rattle.std.specs.Ordering.{nat_cmp, match_ordering}
 use Rattle.std.specs.declared.cmp.Ordering.TheVariants.{Less, Equal, Greater}
 use Rattle.std.specs.BTreeSet.{insert_key}
-use Rattle.std.proofs.lemmas.Bool.{false≢true, cases_eq, cases_Bool, cases_lt, cases_order, or_cases, eqb-true, eqb-false, eq-eqb, ne_eqb, lt-ltb, le-ltb}
-use Rattle.std.proofs.lemmas.List.{length_push}
+use Rattle.std.proofs.lemmas.Bool.{false≢true, cases_eq, cases_Bool, cases_order, or_cases, eqb-true, eq-eqb, ne_eqb, lt-ltb, le-ltb}
 use Rattle.std.proofs.lemmas.List.Elements.{All-head, All-tail}
 use Rattle.element_order.specs.Orders.{AllBelow, among, all_among, first_from}
 use Rattle.element_order.specs.Worklists.{times, waiting}

@@ -1,17 +1,17 @@
 -- The order is that of the definition, and what follows from it.
-use Rattle.std.proofs.Common.{◌≡◌, ℕ, zero, suc, ◌+◌, ◌-◌, ◌<◌, ◌≤◌, Bool, true, false, not, List, [], ◌∷◌, ◌++◌, Option, Some, None, length, get_or, take, refl, ap, sym, ◌∙◌, subst, inl, inr, arith, eqb}
-use Rattle.std.specs.Prelude.{◌||◌, ◌&&◌, ◌⊎◌, All, nat_lt}
+use Rattle.std.proofs.Common.{◌≡◌, ℕ, zero, suc, ◌+◌, ◌<◌, ◌≤◌, true, false, not, List, [], ◌∷◌, ◌++◌, Option, Some, None, length, get_or, take, refl, ap, sym, ◌∙◌, subst, inl, inr, arith, eqb}
+use Rattle.std.specs.Prelude.{◌&&◌, ◌⊎◌, All}
 use Rattle.std.specs.List.{IsDistinct}
-use Rattle.std.proofs.lemmas.Bool.{false≢true, cases_eq, cases_Bool, cases_lt, or_cases, and_parts, and_cases, not-true, not_from_false, eqb-true, eq-eqb, or_left, or_right}
-use Rattle.std.proofs.lemmas.List.{length_push, length-take-le, take_all, take_more, take-append-le, take_at, get_or_append_left, get_or_push, get_or-take, append-nil}
+use Rattle.std.proofs.lemmas.Bool.{false≢true, cases_eq, cases_Bool, cases_lt, or_cases, and_parts, and_cases, not-true, eqb-true, eq-eqb, or_left, or_right}
+use Rattle.std.proofs.lemmas.List.{length_push, length-take-le, take_all, take_more, take-append-le, take_at, get_or_append_left, get_or_push, get_or-take}
 use Rattle.std.proofs.lemmas.List.Elements.{All-get_or}
 use Rattle.std.proofs.lemmas.Map.Keys.{IsDistinct-push, apart_from_distinct}
 use Rattle.std.proofs.lemmas.Map.Steps.{length-le_from_distinct_below, le-length_from_below}
 use Rattle.std.proofs.lemmas.Cmp.{nat_eq_equiv}
-use Rattle.element_order.specs.Orders.{AllBelow, among, all_among, needs_of, is_ready, next_ready, first_from, ordered_from, ordered}
-use Rattle.element_order.specs.Laws.{IsElementOrder, IsSorted, Depends, IsOnCycle, OrderLaw, AllOrders, OneOrder}
+use Rattle.element_order.specs.Orders.{AllBelow, among, all_among, needs_of, is_ready, next_ready, ordered_from, ordered}
+use Rattle.element_order.specs.Laws.{IsElementOrder, IsSorted, Depends, IsOnCycle, AllOrders, OneOrder}
 use Rattle.element_order.specs.Laws.Depends.{direct, through}
-use Rattle.element_order.proofs.Numbers.{among-push, below_among, IsFirst, first_passes, none_passes}
+use Rattle.element_order.proofs.Numbers.{among-push, below_among, first_passes, none_passes}
 use Rattle.element_order.proofs.Placings.{turn_some, turns_end}
 
 -- ---- places
@@ -99,7 +99,7 @@ done_from needs (suc turns) placed s enough = by_next (λ i more. done_from need
 
 pub ordered_done : (needs : List (List ℕ)) → IsDone needs (ordered needs)
 unfolding ordered IsDistinct
-ordered_done needs = done_from needs (length needs) [] (record { each = λ k lt. absurd (omega arith); distinct = tt; below = λ q there. absurd (false≢true there); }) (omega arith)
+ordered_done needs = done_from needs (length needs) [] (record { each = λ k lt. absurd (omega arith); distinct = tt; below = λ q there. absurd (false≢true there) }) (omega arith)
 
 sorted_done : (needs : List (List ℕ)) (placed : List ℕ) → IsSoFar needs placed → IsSorted needs placed
 sorted_done needs placed s = record {

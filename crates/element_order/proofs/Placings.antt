@@ -1,34 +1,32 @@
 -- A walk in element order, step by step.
-use Rattle.std.proofs.Common.{◌≡◌, ℕ, zero, suc, ◌+◌, ◌-◌, ◌<◌, ◌≤◌, Bool, true, false, cond, not, List, [], ◌∷◌, ◌++◌, Option, Some, None, length, get_or, map, set, refl, ap, sym, ◌∙◌, subst, inl, inr, ⊎_elim, arith, eqb, ltb}
-use Rattle.std.specs.Prelude.{◌||◌, ◌&&◌, ◌==◌, if◌then◌else◌, All, nat_lt, replicate}
-use Rattle.std.specs.List.{list_any, IsDistinct}
+use Rattle.std.proofs.Common.{◌≡◌, ℕ, zero, suc, ◌+◌, ◌-◌, ◌<◌, ◌≤◌, Bool, true, false, cond, not, List, [], ◌∷◌, ◌++◌, Some, None, length, get_or, map, refl, ap, sym, ◌∙◌, subst, inl, inr, arith, eqb}
+use Rattle.std.specs.Prelude.{◌||◌, ◌&&◌, ◌==◌, if◌then◌else◌, All, nat_lt}
+use Rattle.std.specs.List.{IsDistinct}
 use Rattle.std.specs.Ordering.{nat_cmp}
-use Rattle.std.specs.declared.cmp.Ordering.{Ordering}
 use Rattle.std.specs.declared.cmp.Ordering.TheVariants.{Less, Equal, Greater}
 use Rattle.std.specs.BTreeMap.Range.{IsLtBy}
 use Rattle.std.specs.BTreeSet.{insert_key}
-use Rattle.std.proofs.lemmas.Bool.{false≢true, cases_eq, cases_Bool, cases_lt, cases_order, or_cases, and_parts, not-true, eqb-true, eqb-false, eq-eqb, ne_eqb, lt-ltb, le-ltb, ltb-true, or_left}
+use Rattle.std.proofs.lemmas.Bool.{false≢true, cases_eq, cases_Bool, cases_lt, cases_order, or_cases, and_parts, not-true, eqb-true, eq-eqb, ne_eqb, lt-ltb, le-ltb, or_left}
 use Rattle.std.proofs.lemmas.List.{length_push, length-set, get_or-set_same, get_or-set_other, get_or_past, get_or_default, get_or-map, length-map}
 use Rattle.std.proofs.lemmas.List.Elements.{All-head, All-tail, All-nil, All-weaker}
 use Rattle.std.proofs.lemmas.Map.Keys.{IsDistinct-push}
 use Rattle.std.proofs.lemmas.Map.Steps.{length-le_from_distinct_below}
 use Rattle.std.proofs.lemmas.Cmp.{nat_eq_equiv}
-use Rattle.element_order.specs.Orders.{AllBelow, among, all_among, needs_of, is_ready, next_ready, first_from, with_next, ordered_from, ordered}
+use Rattle.element_order.specs.Orders.{AllBelow, among, needs_of, is_ready, next_ready, with_next, ordered_from, ordered}
 use Rattle.element_order.specs.Worklists.{times, waiting, IsFeeds, told_waits, told_keys, all_told_waits, all_told_keys, AreReady, Placing, Walk, AreFound, AreDue}
-use Rattle.element_order.proofs.Numbers.{or_true, or_false, and_false, present, eqb_flip, among-push, below_among, times-cons, times-nil, waiting-push, waiting-zero, waiting-nil, among-insert, first_is, first_none}
+use Rattle.element_order.proofs.Numbers.{or_true, or_false, and_false, present, among-push, times-cons, times-nil, waiting-push, waiting-zero, waiting-nil, among-insert, first_is, first_none}
 
 -- ---- what is ready
 pub ready_below : (placed keys waits : List ℕ) (j : ℕ) → AreReady placed keys waits → among j keys ≡ true → (j < length waits) × (among j placed ≡ false) × (get_or waits j 1 ≡ 0)
 ready_below placed keys waits j r e =
     let parts = and_parts (not (among j placed)) (get_or waits j 1 == 0) (sym (r.known j) ∙ e) in
-    let zero_there : get_or waits j 1 ≡ 0 = eqb-true (get_or waits j 1) 0 parts.1 in
-    (
+    let zero_there : get_or waits j 1 ≡ 0 = eqb-true (get_or waits j 1) 0 parts.1 in (
       elim (cases_lt j (length waits)) [
         | inl lt ↦ lt
         | inr ge ↦ let past = get_or_past waits j 1 ge in absurd (omega arith)
       ],
       not-true (among j placed) parts.0,
-      zero_there
+      zero_there,
     )
 
 -- ---- an element is placed
@@ -42,7 +40,7 @@ place_one needs feeds placed keys rest waits k f p e apart = record {
       let same = f.each j k lt low in
       let none = times-nil j in
       omega arith;
-  ready = record { known = λ j. ready_one j; };
+  ready = record { known = λ j. ready_one j };
   closed = λ j there.
       elim (or_cases (among j placed) (eqb j k) (sym (among-push placed k j) ∙ there)) [
         | inl t ↦ p.closed j t
@@ -95,7 +93,7 @@ tell_more needs placed more keys waits f p = record {
             let hit = present (j == f) false (ne_eqb j f ne) in
             omega arith
       ];
-  ready = record { known = λ j. ready_one j; };
+  ready = record { known = λ j. ready_one j };
   closed = λ j there.
       elim (cases_eq j f) [
         | inl is ↦ absurd (let zero_there = p.closed j there in let same = ap (λ q. get_or waits q 1) is in let some = positive in omega arith)
@@ -191,24 +189,25 @@ due_all needs placed more keys waits p = record {
         omega arith
 
 pub due_more : (f : ℕ) (more waits : List ℕ) → AreDue (f ∷ more) waits → (0 < get_or waits f 0) × AreDue more (told_waits waits f)
-due_more f more waits d =
-    (positive,
-    record {
-      due = λ j.
-          let before = d.due j in
-          let one = times-cons j f more in
-          elim (cases_eq j f) [
-            | inl is ↦
-                let hit = present (j == f) true (eq-eqb j f is) in
-                let now = ap (λ q. get_or (told_waits waits f) q 0) is ∙ get_or-set_same waits f (get_or waits f 0 - 1) 0 low in
-                let same = ap (λ q. get_or waits q 0) is in
-                omega arith
-            | inr ne ↦
-                let hit = present (j == f) false (ne_eqb j f ne) in
-                let now = get_or-set_other waits f j (get_or waits f 0 - 1) 0 ne in
-                omega arith
-          ];
-    })
+due_more f more waits d = (
+  positive,
+  record {
+    due = λ j.
+        let before = d.due j in
+        let one = times-cons j f more in
+        elim (cases_eq j f) [
+          | inl is ↦
+              let hit = present (j == f) true (eq-eqb j f is) in
+              let now = ap (λ q. get_or (told_waits waits f) q 0) is ∙ get_or-set_same waits f (get_or waits f 0 - 1) 0 low in
+              let same = ap (λ q. get_or waits q 0) is in
+              omega arith
+          | inr ne ↦
+              let hit = present (j == f) false (ne_eqb j f ne) in
+              let now = get_or-set_other waits f j (get_or waits f 0 - 1) 0 ne in
+              omega arith
+        ];
+  },
+)
   where
     positive : 0 < get_or waits f 0
     positive =
@@ -371,7 +370,7 @@ all_above k rest h = All-weaker (IsLtBy nat_cmp k) (λ q. k < q) (λ q lt. below
 
 -- what waits for nothing at the start
 pub found_none : (waits keys : List ℕ) → keys ≡ [] → AreFound 0 waits keys
-found_none waits keys e = record { known = λ j. ap (among j) e ∙ ap (λ b. b && (get_or waits j 1 == 0)) (sym (le-ltb j 0 (omega arith))); }
+found_none waits keys e = record { known = λ j. ap (among j) e ∙ ap (λ b. b && (get_or waits j 1 == 0)) (sym (le-ltb j 0 (omega arith))) }
 
 below_more : (n j : ℕ) → (j ≡ n → ⊥) → nat_lt j (n + 1) ≡ nat_lt j n
 below_more n j ne =

@@ -1,13 +1,13 @@
 -- A walk through what an element depends on, step by step.
-use Rattle.std.proofs.Common.{◌≡◌, ℕ, zero, suc, ◌+◌, ◌-◌, ◌<◌, ◌≤◌, Bool, true, false, not, List, [], ◌∷◌, ◌++◌, Option, Some, None, length, get_or, set, refl, ap, sym, ◌∙◌, subst, inl, inr, arith, eqb}
+use Rattle.std.proofs.Common.{◌≡◌, ℕ, zero, suc, ◌+◌, ◌<◌, ◌≤◌, Bool, true, false, List, [], ◌∷◌, ◌++◌, Option, Some, None, length, get_or, set, refl, ap, sym, ◌∙◌, subst, inl, inr, arith, eqb}
 use Rattle.std.specs.Prelude.{◌||◌, ◌⊎◌, ◌↔◌, if◌then◌else◌, All, IsTrue, IsSomeAnd, replicate}
 use Rattle.std.proofs.lemmas.Bool.{false≢true, cases_eq, cases_Bool, cases_lt, or_cases, or_parts, eqb-true, eq-eqb, ne_eqb, or_left, or_right}
-use Rattle.std.proofs.lemmas.List.{length_push, length-set, get_or-set_same, get_or-set_other, get_or_past, get_or_default, length-replicate, get_or-replicate}
-use Rattle.std.proofs.lemmas.List.Elements.{All-head, All-tail, All-nil, All-get_or, All-push, All-from_get_or}
+use Rattle.std.proofs.lemmas.List.{length_push, length-set, get_or-set_same, get_or-set_other, get_or_past, length-replicate, get_or-replicate}
+use Rattle.std.proofs.lemmas.List.Elements.{All-head, All-tail, All-get_or, All-from_get_or}
 use Rattle.element_order.specs.Orders.{AllBelow, among, needs_of, ordered}
 use Rattle.element_order.specs.Laws.{Depends, TellsFirst, IsFirstOnCycle}
 use Rattle.element_order.specs.Laws.Depends.{direct, through}
-use Rattle.element_order.specs.Worklists.{times, IsFeeds}
+use Rattle.element_order.specs.Worklists.{IsFeeds}
 use Rattle.element_order.specs.Reached.{unseen, is_marked, with_marks, AreClear, seen_with, waiting_with, all_seen, all_waiting, IsTurn, is_reached, Reach}
 use Rattle.element_order.proofs.Numbers.{among-push, below_among, times-from_among, among_from_times, or_false}
 use Rattle.element_order.proofs.OrderLaws.{follows, placed_is_clear, order_holds, among_at}
@@ -229,11 +229,10 @@ walked needs cleared start seen _ _ clear r (through i j k h d) is there unclear
 
 pub reach_end : (needs : List (List ℕ)) (cleared : List Bool) (start : ℕ) (seen : List Bool) → AreClear needs cleared → is_marked cleared start ≡ false → Reach needs cleared start [] seen []
     → IsTrue (is_marked seen start) ↔ Depends needs start start
-reach_end needs cleared start seen clear uncleared r =
-    (
-      λ e. elim (r.sound start e) [ inl d ↦ d | inr c ↦ absurd (false≢true (sym uncleared ∙ c)) ],
-      λ d. walked needs cleared start seen start start clear r d refl (or_left (eqb start start) (is_marked seen start) (eq-eqb start start refl)) uncleared (inl refl)
-    )
+reach_end needs cleared start seen clear uncleared r = (
+  λ e. elim (r.sound start e) [ inl d ↦ d | inr c ↦ absurd (false≢true (sym uncleared ∙ c)) ],
+  λ d. walked needs cleared start seen start start clear r d refl (or_left (eqb start start) (is_marked seen start) (eq-eqb start start refl)) uncleared (inl refl),
+)
 
 -- ---- what is cleared at the start
 pub with_marks_is : (marks : List Bool) (xs : List ℕ) (k : ℕ) → is_marked (with_marks marks xs) k ≡ true → (is_marked marks k ≡ true) ⊎ (among k xs ≡ true)

@@ -1,5 +1,5 @@
 -- What the order is, and what follows from it.
-use Rattle.std.specs.Prelude.{◌≡◌, ℕ, ◌<◌, ◌≤◌, Bool, true, List, Option, Some, None, All, length, get_or, take, eqb}
+use Rattle.std.specs.Prelude.{◌≡◌, ℕ, ◌<◌, ◌≤◌, true, List, Option, Some, None, All, length, get_or, take, eqb}
 use Rattle.std.specs.List.{IsDistinct}
 use Rattle.element_order.specs.Orders.{AllBelow, among, all_among, needs_of, next_ready, ordered}
 

@@ -1,5 +1,5 @@
 -- The order of elements: again and again the first one in text order all of whose sources are ready.
-use Rattle.std.specs.Prelude.{ℕ, zero, suc, ◌+◌, ◌<◌, ◌&&◌, Bool, true, false, not, if◌then◌else◌, List, [], ◌∷◌, ◌++◌, Option, Some, None, All, length, get_or, eqb}
+use Rattle.std.specs.Prelude.{ℕ, zero, suc, ◌+◌, ◌<◌, ◌&&◌, Bool, true, not, if◌then◌else◌, List, [], ◌∷◌, ◌++◌, Option, Some, None, All, length, get_or, eqb}
 use Rattle.std.specs.List.{list_any}
 
 -- For each element, in text order, `needs` has the places of the elements whose channels it takes.

@@ -1,5 +1,5 @@
 -- A walk through what an element depends on.
-use Rattle.std.specs.Prelude.{◌≡◌, ℕ, ◌+◌, ◌<◌, ◌||◌, ◌⊎◌, Bool, true, false, if◌then◌else◌, List, [], ◌∷◌, ◌++◌, length, get_or, set, eqb}
+use Rattle.std.specs.Prelude.{◌≡◌, ℕ, ◌+◌, ◌||◌, ◌⊎◌, Bool, true, false, if◌then◌else◌, List, [], ◌∷◌, ◌++◌, length, get_or, set, eqb}
 use Rattle.element_order.specs.Orders.{AllBelow, among, needs_of}
 use Rattle.element_order.specs.Laws.{Depends}
 

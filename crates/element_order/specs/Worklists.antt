@@ -1,9 +1,9 @@
 -- What a walk in element order keeps: which elements need each one, and how many sources each one still waits for.
-use Rattle.std.specs.Prelude.{◌≡◌, ℕ, ◌+◌, ◌-◌, ◌<◌, ◌≤◌, ◌==◌, ◌&&◌, nat_lt, Bool, true, false, not, if◌then◌else◌, List, [], ◌∷◌, ◌++◌, length, get_or, eqb, set}
+use Rattle.std.specs.Prelude.{◌≡◌, ℕ, ◌+◌, ◌-◌, ◌<◌, ◌≤◌, ◌==◌, ◌&&◌, nat_lt, true, not, if◌then◌else◌, List, [], ◌∷◌, ◌++◌, length, get_or, eqb, set}
 use Rattle.std.specs.List.{IsDistinct}
 use Rattle.std.specs.Ordering.{nat_cmp}
 use Rattle.std.specs.BTreeSet.{insert_key}
-use Rattle.element_order.specs.Orders.{AllBelow, among, needs_of, next_ready, ordered, ordered_from}
+use Rattle.element_order.specs.Orders.{AllBelow, among, needs_of, ordered, ordered_from}
 
 -- how often a number stands there
 unfoldable pub times : ℕ → List ℕ → ℕ

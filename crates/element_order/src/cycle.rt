@@ -105,7 +105,12 @@ fn mark(marks: &mut Vec<bool>, elements: &[usize])
 }
 
 /// Whether an element depends on itself. What is marked in `cleared` is known not to, and is not walked.
-fn depends_on_itself(alloc: Global, needs: &[List<usize>], cleared: &[bool], start: usize) -> Result<bool, NoMemory>
+fn depends_on_itself(
+    alloc: Global,
+    needs: &[List<usize>],
+    cleared: &[bool],
+    start: usize,
+) -> Result<bool, NoMemory>
     requires within { All (AllBelow (length needs.now)) needs.now }
     requires cleared { AreClear needs.now cleared.now }
     requires low { start < length needs.now }
@@ -122,7 +127,11 @@ fn depends_on_itself(alloc: Global, needs: &[List<usize>], cleared: &[bool], sta
 }
 
 /// Marks what the newest of those that wait needs. Answers false where none waits.
-fn reach_next(needs: &[List<usize>], seen: &mut Vec<bool>, waiting: &mut Vec<usize>) -> Result<bool, NoMemory>
+fn reach_next(
+    needs: &[List<usize>],
+    seen: &mut Vec<bool>,
+    waiting: &mut Vec<usize>,
+) -> Result<bool, NoMemory>
     requires within { All (AllBelow (length needs.now)) needs.now }
     requires sized { length seen.old.items ≡ length needs.now }
     requires low { AllBelow (length needs.now) waiting.old.items }

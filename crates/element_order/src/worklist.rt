@@ -88,7 +88,11 @@ fn tell(waits: &mut Vec<usize>, ready: &mut BTreeSet<usize>, fed: &[usize]) -> R
 }
 
 /// An element waits for one source less, and is ready where that was the last.
-fn tell_one(waits: &mut Vec<usize>, ready: &mut BTreeSet<usize>, element: usize) -> Result<(), NoMemory>
+fn tell_one(
+    waits: &mut Vec<usize>,
+    ready: &mut BTreeSet<usize>,
+    element: usize,
+) -> Result<(), NoMemory>
     requires { 0 < get_or waits.old.items element 0 }
     ensures waits { OnOk result (waits.new.items ≡ told_waits waits.old.items element) }
     ensures ready { OnOk result (ready.new.keys ≡ told_keys ready.old.keys waits.old.items element) }

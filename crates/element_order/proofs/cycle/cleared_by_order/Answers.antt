@@ -1,8 +1,7 @@
-use Rattle.std.proofs.Common.{◌≡◌, ℕ, ◌<◌, [], false, List, length, get_or, sym, ◌∙◌, subst, ap, arith}
-use Rattle.std.specs.Prelude.{All, replicate}
+use Rattle.std.proofs.Common.{false, length, sym, ◌∙◌, subst, ap}
+use Rattle.std.specs.Prelude.{All}
 use Rattle.std.proofs.lemmas.List.{length-replicate}
 use Rattle.element_order.specs.Orders.{AllBelow, ordered}
-use Rattle.element_order.specs.Reached.{with_marks}
 use Rattle.element_order.proofs.Reaching.{placed_below, feeds_below, clear_by_order}
 use Rattle.element_order.proofs.cycle.cleared_by_order.Goals as goal
 

@@ -1,9 +1,7 @@
-use Rattle.std.proofs.Common.{◌≡◌, ℕ, ◌<◌, [], Bool, false, List, length, get_or, sym, ◌∙◌, subst, ap, arith, rules}
-use Rattle.std.specs.Prelude.{IsTrue, ◌↔◌}
+use Rattle.std.proofs.Common.{◌≡◌, ◌<◌, [], false, length, sym, ◌∙◌, subst, ap, arith}
 use Rattle.std.proofs.lemmas.List.{get_or_read}
 use Rattle.element_order.specs.Orders.{AllBelow, needs_of}
-use Rattle.element_order.specs.Laws.{Depends}
-use Rattle.element_order.specs.Reached.{Reach, is_marked, all_seen, all_waiting, unseen}
+use Rattle.element_order.specs.Reached.{Reach, is_marked}
 use Rattle.element_order.proofs.Reaching.{reach_start, reach_turn, reach_end, waiting_below, turn_smaller}
 use Rattle.element_order.proofs.cycle.depends_on_itself.Goals as goal
 

@@ -1,4 +1,4 @@
-use Rattle.std.proofs.Common.{◌≡◌, ◌<◌, [], List, ℕ, length, get_or, sym, ◌∙◌, subst, ap}
+use Rattle.std.proofs.Common.{◌≡◌, [], length, get_or, ◌∙◌, ap}
 use Rattle.std.proofs.lemmas.List.{get_or_read}
 use Rattle.std.proofs.lemmas.List.Elements.{All-get_or}
 use Rattle.element_order.specs.Orders.{AllBelow}

@@ -1,4 +1,4 @@
-use Rattle.std.proofs.Common.{◌≡◌, ℕ, get_or, sym, ◌∙◌, ap}
+use Rattle.std.proofs.Common.{◌∙◌, ap}
 use Rattle.std.proofs.lemmas.List.{get_or_default}
 use Rattle.element_order.proofs.Placings.{found_here, found_other}
 use Rattle.element_order.proofs.worklist.ready_at_start.Goals as goal

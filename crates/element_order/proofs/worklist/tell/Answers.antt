@@ -1,6 +1,6 @@
-use Rattle.std.proofs.Common.{◌≡◌, ℕ, ◌+◌, ◌∷◌, drop, subst, sym, ◌∙◌, ap, get_or}
+use Rattle.std.proofs.Common.{◌+◌, drop, subst, sym, ◌∙◌, ap, get_or}
 use Rattle.std.proofs.lemmas.List.{drop_more}
-use Rattle.element_order.specs.Worklists.{AreDue, told_waits, told_keys, all_told_waits, all_told_keys}
+use Rattle.element_order.specs.Worklists.{AreDue, told_keys, all_told_waits, all_told_keys}
 use Rattle.element_order.proofs.Placings.{due_more}
 use Rattle.element_order.proofs.worklist.tell.Goals as goal
 

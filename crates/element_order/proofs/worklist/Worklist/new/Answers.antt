@@ -1,5 +1,5 @@
-use Rattle.std.proofs.Common.{◌≡◌, ◌∙◌, ap, subst, length}
-use Rattle.element_order.specs.Worklists.{AreFound, Walk}
+use Rattle.std.proofs.Common.{subst, length}
+use Rattle.element_order.specs.Worklists.{AreFound}
 use Rattle.element_order.proofs.Placings.{walk_begins}
 use Rattle.element_order.proofs.worklist.Worklist.new.Goals as goal
 

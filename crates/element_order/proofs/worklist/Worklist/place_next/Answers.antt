@@ -1,6 +1,6 @@
-use Rattle.std.proofs.Common.{◌≡◌, ℕ, ◌<◌, ◌∷◌, [], List, length, get_or, subst, sym, ◌∙◌, ap, arith, rules}
+use Rattle.std.proofs.Common.{◌≡◌, [], get_or, subst, sym, ◌∙◌, rules}
 use Rattle.std.proofs.lemmas.List.{nil_from_length, get_or_read}
-use Rattle.element_order.specs.Worklists.{AreDue, Walk, all_told_waits, all_told_keys}
+use Rattle.element_order.specs.Worklists.{AreDue}
 use Rattle.element_order.proofs.Placings.{walk_ends, walk_more, told_due, first_within, all_above}
 use Rattle.element_order.proofs.worklist.Worklist.place_next.Goals as goal
 
@@ -31,5 +31,5 @@ returns-clause-walk c =
     let low = first_within c.args.self.now.needs.now feeds c.args.self.now.placed c.args.self.now.ready.keys rest waits c.in-Some.element c.requires c.in-Some.ensures.removal in
     let fed : c.as_slice.result.now ≡ get_or feeds c.in-Some.element [] = c.as_slice.ensures ∙ get_or_read feeds c.in-Some.element c.index-fed.result.now low c.index-fed.ensures [] in
     let walk = walk_more c.args.self.now.needs.now feeds c.args.self.now.placed c.args.self.now.ready.keys rest waits c.in-Some.element c.requires c.in-Some.ensures.removal
-        (all_above c.in-Some.element rest c.in-Some.ensures.all_above) in
+    (all_above c.in-Some.element rest c.in-Some.ensures.all_above) in
     rw (c.in_ok-add.ensures.added, c.in_ok-tell.ensures.waits, c.in_ok-tell.ensures.ready, fed) walk
