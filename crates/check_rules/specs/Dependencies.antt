@@ -6,7 +6,7 @@ use Rattle.design_tree.specs.declared.statements.Statement.{Statement}
 use Rattle.design_tree.specs.declared.statements.Statement.TheVariants as S
 use Rattle.check_rules.specs.Scopes.{Scope, is_id}
 use Rattle.check_rules.specs.References.{is_among, sources_of, statement_place}
-use Rattle.check_rules.specs.ElementOrder.{Depends}
+use Rattle.element_order.specs.Laws.{Depends}
 
 -- what makes channels of others: an instance is one element, whose outputs depend on all its inputs
 abbrev pub is_element : Statement → Bool

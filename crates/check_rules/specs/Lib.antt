@@ -6,7 +6,6 @@ pub mod Undeclared
 pub mod Counts
 pub mod Directions
 pub mod Uses
-pub mod ElementOrder
 pub mod Dependencies
 pub mod Signalling
 pub mod Totals

@@ -10,7 +10,7 @@ use Rattle.design_tree.specs.declared.statements.Statement.{Statement}
 use Rattle.design_tree.specs.declared.statements.Statement.TheVariants as S
 use Rattle.check_rules.specs.Scopes.{Scope}
 use Rattle.check_rules.specs.References.{is_among, sources_of, reference_place}
-use Rattle.check_rules.specs.ElementOrder.{ordered}
+use Rattle.element_order.specs.Orders.{ordered}
 use Rattle.check_rules.specs.Dependencies.{elements_of, needs}
 
 -- the operations whose channel has FIFO signalling

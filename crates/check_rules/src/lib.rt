@@ -3,9 +3,11 @@
 //! rules by name, their limits, and what a reference may refer to.
 #![tactic(auto)]
 
+pub mod keys;
 pub mod limits;
 pub mod referent;
 pub mod rule;
+mod sources;
 
 pub use limits::{
     LARGEST_DESIGN, MAX_BRANCHES, MAX_DEPTH, MAX_ENDPOINTS, MAX_STAGES, MIN_BRANCHES, MIN_DEPTH,
@@ -13,3 +15,4 @@ pub use limits::{
 };
 pub use referent::{Referent, Resolution};
 pub use rule::CheckRule;
+pub use sources::operation_sources;

@@ -8,8 +8,8 @@ ghost use Rattle.check_rules.specs.DeclaredTwice.{declaration_named, member_name
 ghost use Rattle.design_scopes.specs.Bodies.{referred};
 ghost use Rattle.design_names.specs.Places.{repeats_in, declaration_repeats, statement_repeats, body_repeats, own_named, body_ids};
 
+use check_rules::keys::{declaration_mark, id_mark, name_mark};
 use design_scopes::body::Body;
-use design_scopes::keys::{declaration_mark, id_mark, name_mark};
 use design_tree::{Declaration, Member, ModulePort, Name, Operation, ServicePort, Statement};
 use esi_base::{List, NoMemory};
 use name_tables::{Mark, first_repeat};

@@ -5,12 +5,11 @@ ghost use Rattle.check_rules.specs.References.{reference_place, operation_source
 ghost use Rattle.check_rules.specs.Directions.{is_source as source_test, is_sink as sink_test, unless, bound_out, ports_of, statement_directions};
 ghost use Rattle.design_names.specs.ReferencePlaces.{wrong_source, binding_wrong, binding_out, body_wrong};
 
-use check_rules::{Referent, Resolution};
+use check_rules::{Referent, Resolution, operation_sources};
 use design_scopes::body::Body;
 use design_scopes::body_names::BodyNames;
 use design_scopes::declared::Declared;
 use design_scopes::modules::ModuleNames;
-use design_scopes::operation_sources::operation_sources;
 use design_scopes::scope_names::ScopeNames;
 use design_tree::{Binding, ModulePort, Operation, PortDirection, Reference, Statement};
 use esi_base::NoMemory;

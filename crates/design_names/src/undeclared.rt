@@ -7,13 +7,12 @@ ghost use Rattle.check_rules.specs.Undeclared.{look_up, no_more, service_undecla
 ghost use Rattle.design_names.specs.ReferencePlaces.{reference_undeclared, binding_undeclared, body_undeclared, port_bundle_undeclared, bound_port_undeclared, implement_undeclared};
 
 use crate::variables::statement_variables;
-use check_rules::Resolution;
+use check_rules::{Resolution, operation_sources};
 use design_scopes::body::Body;
 use design_scopes::body_names::BodyNames;
 use design_scopes::bundles::Bundles;
 use design_scopes::declared::Declared;
 use design_scopes::modules::ModuleNames;
-use design_scopes::operation_sources::operation_sources;
 use design_scopes::scope_names::ScopeNames;
 use design_scopes::services::{ServiceNames, Services};
 use design_tree::{Binding, Name, Operation, Reference, ServicePort, Statement};

@@ -14,10 +14,10 @@ ghost use Rattle.design_scopes.specs.Resolving.{scope_in};
 ghost use Rattle.design_names.specs.UnusedPlaces.{missing_one, members_unused, outs_unused, ins_unbound, binding_label, unused_by, unbound_by, body_unused, used_labels};
 
 use crate::used_twice::push_used;
+use check_rules::keys::{name_key, name_mark, part_key};
 use design_scopes::body::Body;
 use design_scopes::bundles::BundleNames;
 use design_scopes::declared::Declared;
-use design_scopes::keys::{name_key, name_mark, part_key};
 use design_scopes::modules::ModuleNames;
 use design_scopes::resolving::find_requested;
 use design_tree::{ApplicationId, Binding, Member, ModulePort, Name, PortDirection, Statement};

@@ -7,8 +7,8 @@ ghost use Rattle.check_rules.specs.References.{operation_sources, reference_name
 ghost use Rattle.check_rules.specs.Uses.{binding_named};
 ghost use Rattle.design_names.specs.Places.{statement_used, binding_used, body_used, statement_bound, body_uses};
 
+use check_rules::keys::{name_mark, reference_mark};
 use design_scopes::body::Body;
-use design_scopes::keys::{name_mark, reference_mark};
 use design_tree::{Binding, Operation, Statement};
 use esi_base::{List, NoMemory};
 use name_tables::{Mark, first_repeat};

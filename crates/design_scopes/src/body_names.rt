@@ -8,8 +8,8 @@ ghost use Rattle.design_scopes.specs.Tables.{port_label, name_label};
 ghost use Rattle.design_scopes.specs.Resolving.{IsNamesOf, id_labels, id_owners};
 
 use crate::body::Body;
-use crate::keys::{id_key, name_key};
 use crate::lookup::at;
+use check_rules::keys::{id_key, name_key};
 use design_tree::{ApplicationId, ModulePort, Name, Statement};
 use esi_base::{List, NoMemory};
 use name_tables::{Key, NameTable};

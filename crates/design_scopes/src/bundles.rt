@@ -4,8 +4,8 @@ ghost use Rattle.name_tables.specs.Keys.{label_of};
 ghost use Rattle.check_rules.specs.Scopes.{bundle_in, bundles_of, find_bundle, find_member};
 ghost use Rattle.design_scopes.specs.Tables.{bundle_label, member_label};
 
-use crate::keys::name_key;
 use crate::lookup::at;
+use check_rules::keys::name_key;
 use design_tree::{Bundle, Declaration, Member, Name};
 use esi_base::{List, NoMemory};
 use name_tables::{Key, NameTable};

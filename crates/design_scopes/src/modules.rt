@@ -4,8 +4,8 @@ ghost use Rattle.name_tables.specs.Keys.{label_of};
 ghost use Rattle.check_rules.specs.Scopes.{module_in, modules_of, find_module, find_port};
 ghost use Rattle.design_scopes.specs.Tables.{module_label, port_label};
 
-use crate::keys::name_key;
 use crate::lookup::{at, at_below};
+use check_rules::keys::name_key;
 use design_tree::{Declaration, Module, ModulePort, Name};
 use esi_base::{List, NoMemory};
 use name_tables::{Key, NameTable};

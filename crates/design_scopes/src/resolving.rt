@@ -7,8 +7,8 @@ use crate::body::Body;
 use crate::body_names::{BodyNames, owner_of};
 use crate::bundles::BundleNames;
 use crate::declared::Declared;
-use crate::keys::name_key;
 use crate::modules::ModuleNames;
+use check_rules::keys::name_key;
 use check_rules::{Referent, Resolution};
 use design_tree::{
     ApplicationId, Direction, Member, ModulePort, Name, PortDirection, Reference, Statement,

@@ -4,8 +4,8 @@ ghost use Rattle.name_tables.specs.Keys.{label_of};
 ghost use Rattle.check_rules.specs.Scopes.{service_in, services_of, find_service, find_service_port};
 ghost use Rattle.design_scopes.specs.Tables.{service_label, service_port_label};
 
-use crate::keys::name_key;
 use crate::lookup::at;
+use check_rules::keys::name_key;
 use design_tree::{Declaration, Name, Service, ServicePort};
 use esi_base::{List, NoMemory};
 use name_tables::{Key, NameTable};

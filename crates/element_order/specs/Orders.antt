@@ -1,6 +1,10 @@
--- The order of elements, each of which needs some others, which are told by their places.
-use Rattle.std.specs.Prelude.{◌≡◌, ℕ, zero, suc, eqb, ◌+◌, Bool, true, false, not, ◌&&◌, Option, Some, None, List, [], ◌∷◌, ◌++◌, length, get_or, if◌then◌else◌}
+-- The order of elements: again and again the first one in text order all of whose sources are ready.
+use Rattle.std.specs.Prelude.{ℕ, zero, suc, ◌+◌, ◌<◌, ◌&&◌, Bool, true, not, if◌then◌else◌, List, [], ◌∷◌, ◌++◌, Option, Some, None, All, length, get_or, eqb}
 use Rattle.std.specs.List.{list_any}
+
+-- For each element, in text order, `needs` has the places of the elements whose channels it takes.
+abbrev pub AllBelow : ℕ → List ℕ → Type 0
+AllBelow n ds = All (λ d. d < n) ds
 
 -- the number stands there
 abbrev pub among : ℕ → List ℕ → Bool
@@ -18,7 +22,7 @@ needs_of needs i = get_or needs i []
 abbrev pub is_ready : List (List ℕ) → List ℕ → ℕ → Bool
 is_ready needs placed i = not (among i placed) && all_among (needs_of needs i) placed
 
--- the first of so many numbers from `i` on that passes
+-- the first of the `left` numbers from `i` on that passes
 unfoldable pub first_from : (ℕ → Bool) → ℕ → ℕ → Option ℕ
 first_from test i zero = None
 first_from test i (suc left) = if test i then Some i else first_from test (i + 1) left
@@ -37,11 +41,5 @@ unfoldable pub ordered_from : List (List ℕ) → ℕ → List ℕ → List ℕ
 ordered_from needs zero placed = placed
 ordered_from needs (suc turns) placed = with_next (λ i. ordered_from needs turns (placed ++ i ∷ [])) placed (next_ready needs placed)
 
--- Again and again the first element all of whose needs are placed.
 unfoldable pub ordered : List (List ℕ) → List ℕ
 ordered needs = ordered_from needs (length needs) []
-
--- An element depends on those that it needs, and on all that these depend on.
-pub data Depends (needs : List (List ℕ)) : ℕ → ℕ → Type 0 where
-  direct : (i k : ℕ) → among k (needs_of needs i) ≡ true → Depends needs i k
-  through : (i j k : ℕ) → among j (needs_of needs i) ≡ true → Depends needs j k → Depends needs i k
