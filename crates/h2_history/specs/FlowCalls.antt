@@ -1,10 +1,9 @@
 -- What each entry of a history does to the windows: calls of the ledger, over which the windows are sums.
-use Rattle.std.specs.Prelude.{◌≡◌, ℕ, ◌==◌, ◌≤◌, nat_lt, Bool, true, false, Option, Some, None, List, [], ◌∷◌, ◌++◌, length, Result, Ok, Err, if◌then◌else◌}
+use Rattle.std.specs.Prelude.{ℕ, ◌==◌, ◌≤◌, nat_lt, Bool, true, Option, Some, None, List, [], ◌∷◌, ◌++◌, length, Result, Ok, Err, if◌then◌else◌}
 use Rattle.h2_flow.specs.declared.limits.TheConstants.{OPEN_STREAMS}
 use Rattle.h2_flow.specs.History.{Call}
 use Rattle.h2_flow.specs.History.Call.{OpenStream as Opening, CloseStream, Received, Resolve, Sent, Update as Updated, Initial}
-use Rattle.h2_flow.specs.Windows.{Windows, may_open, may_send, answer_at_receipt, answer_at_update, answer_at_setting, increment_due}
-use Rattle.hpack.specs.declared.header.Header.{Header}
+use Rattle.h2_flow.specs.Windows.{may_open, may_send, answer_at_receipt, answer_at_update, answer_at_setting, increment_due}
 use Rattle.hpack.specs.declared.stop.BlockRule.{BlockRule}
 use Rattle.hpack.specs.Representations.{Listing}
 use Rattle.h2_history.specs.Blocks.{block_begun, block_grown, is_too_long, has_all_frames, decoded_at, list_verdict, row_wanted}
@@ -20,7 +19,7 @@ use Rattle.h2_history.specs.Settings.{breaks_windows, with_setting}
 use Rattle.h2_history.specs.Standing.{Standing}
 use Rattle.h2_history.specs.Verdicts.{counted_on, data_verdict, headers_verdict, reset_verdict, update_verdict}
 use Rattle.h2_layouts.specs.declared.frame.Frame.{Frame}
-use Rattle.h2_layouts.specs.declared.frame.Frame.TheVariants.{Content, Head, Reset, Settings, GoAway, Update, Continued}
+use Rattle.h2_layouts.specs.declared.frame.Frame.TheVariants.{Content, Head, Reset, Settings, Update, Continued}
 use Rattle.h2_layouts.specs.declared.setting.Setting.{Setting}
 use Rattle.h2_layouts.specs.declared.setting.TheConstants.{HEADER_TABLE_SIZE, INITIAL_WINDOW_SIZE}
 use Rattle.stream_table.specs.declared.open_stream.OpenStream.{OpenStream}

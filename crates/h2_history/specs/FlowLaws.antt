@@ -1,11 +1,10 @@
 -- The windows are those that the calls of the entries make, so they are sums over a history.
-use Rattle.std.proofs.Common.{◌≡◌, ℕ, ◌+◌, ◌≤◌, Bool, true, false, cond, Option, Some, None, List, [], ◌∷◌, ◌++◌, length, Result, Ok, Err, refl, ap, sym, ◌∙◌, subst}
+use Rattle.std.proofs.Common.{◌≡◌, ℕ, ◌≤◌, Bool, true, false, cond, Option, Some, None, List, [], ◌∷◌, ◌++◌, length, Result, Ok, Err, refl, ap, sym, subst}
 use Rattle.std.specs.Prelude.{nat_lt, ◌==◌}
-use Rattle.esi_base.specs.declared.stop.Stop.TheVariants.{Refused}
 use Rattle.h2_flow.specs.declared.limits.TheConstants.{OPEN_STREAMS}
 use Rattle.h2_flow.specs.History.{Call, IsRun}
-use Rattle.h2_flow.specs.History.Call.{OpenStream as Opening, CloseStream, Received, Resolve, Sent, Update as Updated, Initial}
-use Rattle.h2_flow.specs.Windows.{Windows, may_open, may_send, answer_at_receipt, answer_at_update, answer_at_setting, increment_due, after_closing, after_sending, after_resolving}
+use Rattle.h2_flow.specs.History.Call.{CloseStream, Resolve, Sent, Initial}
+use Rattle.h2_flow.specs.Windows.{Windows, may_send, answer_at_update, answer_at_setting, increment_due, after_closing, after_sending, after_resolving}
 use Rattle.hpack.specs.declared.stop.BlockRule.{BlockRule}
 use Rattle.hpack.specs.Encoding.{Writing, with_peer_limit}
 use Rattle.hpack.specs.Representations.{Listing}
@@ -15,11 +14,11 @@ use Rattle.h2_history.specs.Blocks.{Completed, completed_by, completed, seen_by_
 use Rattle.h2_history.specs.declared.header_block.HeaderBlock.{HeaderBlock}
 use Rattle.h2_history.specs.declared.verdict.Verdict.{Verdict}
 use Rattle.h2_history.specs.declared.verdict.Verdict.TheVariants.{ConnectionError, StreamError, Ignored, Accepted}
-use Rattle.h2_history.specs.FlowCalls.{calls_ended_here, calls_ended_by_peer, calls_of_frame, calls_opening, calls_of_put, call_received, calls_of_data, calls_of_row, calls_of_list, calls_of_listing, calls_of_fragment, calls_of_headers, calls_of_continuation, calls_of_reset, calls_of_update, calls_of_setting, calls_of_settings, calls_of_read, calls_of_entry, flow_calls, IsWithin, AreWithin}
+use Rattle.h2_history.specs.FlowCalls.{calls_ended_here, calls_ended_by_peer, calls_of_frame, calls_opening, calls_of_put, call_received, calls_of_data, calls_of_row, calls_of_list, calls_of_listing, calls_of_fragment, calls_of_headers, calls_of_continuation, calls_of_reset, calls_of_update, calls_of_setting, calls_of_settings, calls_of_read, flow_calls, IsWithin, AreWithin}
 use Rattle.h2_history.specs.Frames.{counted, data_seen, opened_if_room, headers_opens, headers_seen, headers_read, continued_seen, reset_seen, update_seen, goaway_seen, frame_seen}
 use Rattle.h2_history.specs.History.{Entry, passed, passed_next, after, after_all}
 use Rattle.h2_history.specs.History.Entry.{Fed, In, Out, Took}
-use Rattle.h2_history.specs.Puts.{Put, octets_put, writing_behind, shut, opened, row_ended_here, ended_here, row_ended_by_peer, ended_by_peer, ended_here_if, effect_of_frame, effect, out}
+use Rattle.h2_history.specs.Puts.{Put, octets_put, writing_behind, shut, opened, row_ended_here, ended_here, row_ended_by_peer, ended_by_peer, ended_here_if, effect_of_frame, out}
 use Rattle.h2_history.specs.Puts.Put.{Plain, Headers}
 use Rattle.h2_history.specs.Settings.{Settled, settled, with_setting, breaks_windows}
 use Rattle.h2_history.specs.Standing.{Standing}

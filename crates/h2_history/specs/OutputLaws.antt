@@ -1,16 +1,15 @@
 -- What waits in the output is the octets of the frames that were put, less those that were taken.
-use Rattle.std.proofs.Common.{◌≡◌, ℕ, ◌+◌, ◌≤◌, Bool, true, false, cond, Option, Some, None, List, [], ◌∷◌, ◌++◌, length, drop, refl, ap, sym, ◌∙◌, subst, append_assoc, arith, length-append, length-drop}
+use Rattle.std.proofs.Common.{◌≡◌, ℕ, ◌+◌, ◌≤◌, Option, Some, None, List, [], ◌∷◌, ◌++◌, length, drop, refl, ap, sym, ◌∙◌, subst, append_assoc, arith, length-append, length-drop}
 use Rattle.std.proofs.lemmas.List.{append-nil, drop-append-le, drop-drop}
 use Rattle.h2_frames.specs.Reading.{Next, next_of}
 use Rattle.h2_frames.specs.Reading.Next.{NextUnfinished, NextFrame, NextFault}
-use Rattle.h2_history.specs.declared.event.CallEvent.{CallEvent}
 use Rattle.h2_history.specs.Frames.{frame_seen, frame_owed}
 use Rattle.h2_history.specs.History.{Entry, outs, passed, passed_next, after, after_all, turn_entries, entries_by, entries_next}
 use Rattle.h2_history.specs.History.Entry.{Fed, In, Out, Took}
 use Rattle.h2_history.specs.Puts.{Put, octets_put, out, placed_all}
-use Rattle.h2_history.specs.Runs.{Call, Step, Steps, IsRun, quiet_entries, data_put, octets_out, octets_taken}
+use Rattle.h2_history.specs.Runs.{Call, Step, IsRun, quiet_entries, data_put, octets_out, octets_taken}
 use Rattle.h2_history.specs.Runs.Call.{Feed, Tell, Rest, Offer, Send, Take}
-use Rattle.h2_history.specs.RunLaws.{after_joined, step_stands}
+use Rattle.h2_history.specs.RunLaws.{step_stands}
 use Rattle.h2_history.specs.Standing.{Standing}
 use Rattle.h2_history.specs.Unmoved.{seen_stays, out_octets}
 

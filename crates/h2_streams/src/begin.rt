@@ -11,7 +11,9 @@ use h2_flow::{FIRST_WINDOW, Ledger, OPEN_STREAMS};
 use h2_frames::{FrameReader, Role};
 use h2_history::limits::{SERVER_WINDOW, UNLIMITED_STREAMS};
 use h2_layouts::FrameType;
-use h2_layouts::setting::{ENABLE_PUSH, MAX_CONCURRENT_STREAMS, MAX_HEADER_LIST_SIZE as HEADER_LIST};
+use h2_layouts::setting::{
+    ENABLE_PUSH, MAX_CONCURRENT_STREAMS, MAX_HEADER_LIST_SIZE as HEADER_LIST,
+};
 use h2_output::Output;
 use hpack::{Decoder, Encoder, MAX_HEADER_LIST_SIZE};
 use std::alloc::Global;
@@ -106,11 +108,7 @@ impl Conn {
         requires { self.old ≡ first_standing client_role }
         ensures { self.new ≡ new_standing client_role }
     {
-        self.output.push_frame(
-            FrameType::Settings,
-            0,
-            0,
-            &setting_octets(ENABLE_PUSH, 0),
-        );
+        self.output
+            .push_frame(FrameType::Settings, 0, 0, &setting_octets(ENABLE_PUSH, 0));
     }
 }

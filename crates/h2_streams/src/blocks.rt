@@ -171,7 +171,11 @@ impl Conn {
     }
 
     /// Reads one frame of a block, the last one or not.
-    pub(crate) fn read_fragment(&mut self, last: bool, block: HeaderBlock) -> Result<BlockRead, NoMemory>
+    pub(crate) fn read_fragment(
+        &mut self,
+        last: bool,
+        block: HeaderBlock,
+    ) -> Result<BlockRead, NoMemory>
         ensures { IfOk result (λ read. record { verdict = read.verdict; headers = read.headers; left = self.new } ≡ fragment_read last block self.old) }
     {
         if is_too_long(&block) {

@@ -42,19 +42,19 @@ impl Model for Conn {
     ghost Value = { Standing };
 
     ghost view = { λ c. record {
-        role = c.role;
-        reading = c.reader;
-        tables = tables_of c.decoder;
-        writing = writing_of c.broken c.encoder;
-        flow = c.ledger;
-        streams = c.streams;
-        greatest = c.greatest;
-        most = c.most;
-        away = c.away;
-        block = c.block;
-        broken = c.broken;
-        failed = c.failed;
-        output = c.output;
+      role = c.role;
+      reading = c.reader;
+      tables = tables_of c.decoder;
+      writing = writing_of c.broken c.encoder;
+      flow = c.ledger;
+      streams = c.streams;
+      greatest = c.greatest;
+      most = c.most;
+      away = c.away;
+      block = c.block;
+      broken = c.broken;
+      failed = c.failed;
+      output = c.output;
     } };
 
     ghost invariant = { λ c. length c.output + kept c.broken ≤ MOST_UNSENT };

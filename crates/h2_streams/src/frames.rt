@@ -98,7 +98,11 @@ impl Conn {
     }
 
     /// CONTINUATION of the block that is not whole.
-    fn read_continuation(&mut self, last: bool, octets: &[u8]) -> Result<Option<CallEvent>, NoMemory>
+    fn read_continuation(
+        &mut self,
+        last: bool,
+        octets: &[u8],
+    ) -> Result<Option<CallEvent>, NoMemory>
         ensures { IfOk result (λ event. record { left = self.new; event = event } ≡ continued_outcome last octets.now self.old) }
     {
         let Some(block) = self.block.take() else {
@@ -171,7 +175,10 @@ impl Conn {
                 last,
                 octets,
             } => self.read_headers(stream, end, last, octets),
-            Frame::Continued { last, octets, .. } => self.read_continuation(last, octets.as_slice()),
+            Frame::Continued { last, octets, .. } => self.read_continuation(
+                last,
+                octets.as_slice(),
+            ),
             Frame::Reset { stream, code } => Ok(self.read_reset(stream, code)),
             Frame::Update { stream, increment } => Ok(self.read_update(stream, increment)),
             Frame::Settings { pairs } => {

@@ -221,7 +221,11 @@ impl Conn {
         if self.streams.len() >= self.stream_limit() {
             return Err(OpenStop::TooMany);
         }
-        let stream = if self.greatest == 0 { 1 } else { self.greatest + 2 };
+        let stream = if self.greatest == 0 {
+            1
+        } else {
+            self.greatest + 2
+        };
         match self.put_headers(stream, headers, false) {
             Ok(()) => Ok(stream),
             Err(NoMemory) => Err(OpenStop::NoMemory),

@@ -11,8 +11,11 @@ use std::alloc::{AllocError, Global};
 
 /// The types and the flag of the frames that `visit` and `fill` feed.
 const DATA: u8 = 0;
+
 const HEADERS: u8 = 1;
+
 const RST_STREAM: u8 = 3;
+
 const END_HEADERS: u8 = 4;
 
 /// An end, and what has happened on it.
@@ -60,7 +63,11 @@ impl Session {
     /// Takes what the end has put, and feeds it the first SETTINGS.
     fn begin(&mut self, server: bool) -> Result<(), AllocError> {
         self.take();
-        let start = if server { "preface settings" } else { "settings" };
+        let start = if server {
+            "preface settings"
+        } else {
+            "settings"
+        };
         if let Some(octets) = parts::octets_of(self.alloc, start)? {
             self.feed(octets.as_slice())?;
         }
