@@ -1,5 +1,5 @@
 -- What a frame that is read does: how the connection stands then, what is put in answer, what is told of it.
-use Rattle.std.specs.Prelude.{ℕ, ◌==◌, ◌%◌, nat_lt, Bool, true, false, Option, Some, None, List, [], ◌∷◌, ◌++◌, length, if◌then◌else◌}
+use Rattle.std.specs.Prelude.{ℕ, nat_lt, Bool, true, false, Option, Some, None, List, [], ◌∷◌, ◌++◌, length, if◌then◌else◌}
 use Rattle.h2_flow.specs.declared.limits.TheConstants.{OPEN_STREAMS}
 use Rattle.h2_flow.specs.Windows.{answer_at_receipt, answer_at_update}
 use Rattle.h2_history.specs.declared.event.CallEvent.{CallEvent}
@@ -17,7 +17,6 @@ use Rattle.h2_layouts.specs.declared.frame.Frame.{Frame}
 use Rattle.h2_layouts.specs.declared.frame.Frame.TheVariants.{Content, Head, Reset, Settings, SettingsAck, Ping, GoAway, Update, Continued}
 use Rattle.h2_layouts.specs.declared.role.Role.{Role}
 use Rattle.h2_layouts.specs.declared.role.Role.TheVariants.{Server, Client}
-use Rattle.h2_layouts.specs.declared.setting.Setting.{Setting}
 
 -- all three together
 pub record Outcome : Type 0 where

@@ -1,13 +1,12 @@
 -- The history of a connection, and how the connection stands after it.
-use Rattle.std.specs.Prelude.{◌≡◌, ℕ, Bool, Option, Some, None, List, [], ◌∷◌, ◌++◌, drop, map}
+use Rattle.std.specs.Prelude.{◌≡◌, ℕ, Option, Some, None, List, [], ◌∷◌, drop, map}
 use Rattle.h2_frames.specs.Reading.{Next, next_of, fed_with}
 use Rattle.h2_frames.specs.Reading.Next.{NextUnfinished, NextFrame, NextFault}
 use Rattle.h2_flow.specs.declared.limits.TheConstants.{OPEN_STREAMS}
 use Rattle.hpack.specs.declared.limits.TheConstants.{MAX_HEADER_LIST_SIZE}
 use Rattle.h2_history.specs.declared.event.CallEvent.{CallEvent}
 use Rattle.h2_history.specs.declared.event.CallEvent.TheVariants.{Broken}
-use Rattle.h2_history.specs.declared.verdict.Verdict.TheVariants.{ConnectionError}
-use Rattle.h2_history.specs.Frames.{Outcome, frame_seen, frame_owed, frame_read, answered}
+use Rattle.h2_history.specs.Frames.{frame_seen, frame_owed, frame_read}
 use Rattle.h2_history.specs.Puts.{Put, out, goaway, broke, placed_all}
 use Rattle.h2_history.specs.Puts.Put.{Plain}
 use Rattle.h2_history.specs.Standing.{Standing, first_standing}

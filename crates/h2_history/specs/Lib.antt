@@ -5,9 +5,12 @@ pub mod Blocks
 pub mod BlockSizes
 pub mod Settings
 pub mod Frames
+pub mod FlowCalls
+pub mod FlowLaws
 pub mod History
 pub mod Sending
 pub mod Runs
+pub mod OutputLaws
 pub mod RunLaws
 pub mod Turns
 pub mod Unmoved

@@ -1,18 +1,17 @@
 -- A connection stands for its history: each call leaves what its entries make of what it found.
-use Rattle.std.proofs.Common.{◌≡◌, ℕ, ◌+◌, ◌≤◌, Bool, true, false, cond, Option, Some, None, List, [], ◌∷◌, ◌++◌, length, drop, map, refl, ap, sym, ◌∙◌, subst, append_assoc}
+use Rattle.std.proofs.Common.{◌≡◌, ℕ, Bool, true, false, cond, Option, Some, None, List, [], ◌∷◌, ◌++◌, refl, ap, sym, ◌∙◌, subst}
 use Rattle.h2_frames.specs.Reading.{Next, next_of}
 use Rattle.h2_frames.specs.Reading.Next.{NextUnfinished, NextFrame, NextFault}
 use Rattle.h2_history.specs.declared.event.CallEvent.{CallEvent}
 use Rattle.h2_history.specs.Frames.{frame_seen, frame_owed, frame_read}
-use Rattle.h2_history.specs.History.{Entry, outs, passed, passed_next, after, after_all, new_standing, StandsFor, Turn, turn_of, turn_by, turn_next, turn_told, turn_entries, entries_by, entries_next, AreQuiet, Reaches, IsTold, IsAtRest}
-use Rattle.h2_history.specs.History.Entry.{Fed, In, Out, Took}
+use Rattle.h2_history.specs.History.{Entry, outs, passed_next, after, after_all, new_standing, StandsFor, Turn, turn_of, turn_by, turn_next, turn_told, turn_entries, entries_by, entries_next, AreQuiet, IsTold}
+use Rattle.h2_history.specs.History.Entry.{Fed, Out, Took}
 use Rattle.h2_history.specs.History.Turn.{Rests, Goes, Tells}
 use Rattle.h2_history.specs.Puts.{Put, out, fits, goaway, broke, offered, offered_by, offer_all, placed, placed_by, placed_all}
-use Rattle.h2_history.specs.Runs.{Call, Step, Steps, IsRun, quiet_entries, data_put}
+use Rattle.h2_history.specs.Runs.{Call, Step, IsRun, quiet_entries, data_put}
 use Rattle.h2_history.specs.Runs.Call.{Feed, Tell, Rest, Offer, Send, Take}
 use Rattle.h2_history.specs.Standing.{Standing}
 use Rattle.h2_layouts.specs.declared.code.TheConstants.{ENHANCE_YOUR_CALM}
-use Rattle.h2_layouts.specs.declared.frame.Frame.{Frame}
 use Rattle.h2_layouts.specs.declared.role.Role.{Role}
 
 pub after_joined : (first rest : List Entry) (s : Standing) → after_all (first ++ rest) s ≡ after_all rest (after_all first s)

@@ -1,5 +1,5 @@
 -- Lists of calls of a connection, each with the entries that it adds to the history.
-use Rattle.std.specs.Prelude.{◌≡◌, ℕ, ◌+◌, ◌<◌, ◌≤◌, false, List, [], ◌∷◌, ◌++◌, length, drop}
+use Rattle.std.specs.Prelude.{◌≡◌, ℕ, ◌+◌, ◌≤◌, false, List, [], ◌∷◌, ◌++◌, length, drop}
 use Rattle.h2_frames.specs.Reading.{fed_with}
 use Rattle.h2_history.specs.declared.event.CallEvent.{CallEvent}
 use Rattle.h2_history.specs.History.{Entry, outs, after, turn_entries, IsTold, IsAtRest}

@@ -1,5 +1,5 @@
 -- The peer's settings (RFC 9113, section 6.5).
-use Rattle.std.specs.Prelude.{ℕ, ◌==◌, ◌&&◌, Bool, is_some, List, [], ◌∷◌, if◌then◌else◌}
+use Rattle.std.specs.Prelude.{◌==◌, ◌&&◌, Bool, is_some, List, [], ◌∷◌, if◌then◌else◌}
 use Rattle.h2_flow.specs.Windows.{answer_at_setting}
 use Rattle.h2_history.specs.declared.verdict.Verdict.{Verdict}
 use Rattle.h2_history.specs.declared.verdict.Verdict.TheVariants.{ConnectionError, Accepted}

@@ -1,5 +1,5 @@
 -- How a connection stands: what its history has left.
-use Rattle.std.specs.Prelude.{ℕ, ◌-◌, ◌==◌, ◌&&◌, ◌%◌, min, nat_le, Bool, true, false, Option, Some, None, List, [], ◌∷◌, length, Result, Ok, Err, if◌then◌else◌}
+use Rattle.std.specs.Prelude.{ℕ, ◌-◌, ◌==◌, ◌&&◌, ◌%◌, min, nat_le, Bool, false, Option, Some, None, List, [], length, Result, Ok, Err, if◌then◌else◌}
 use Rattle.esi_base.specs.declared.stop.Stop.{Stop}
 use Rattle.hpack.specs.declared.stop.BlockRule.{BlockRule}
 use Rattle.hpack.specs.Decoding.{Decoding}

@@ -1,17 +1,16 @@
 -- A turn that tells nothing brings reading nearer to its end.
-use Rattle.std.proofs.Common.{◌≡◌, ℕ, ◌+◌, ◌<◌, ◌≤◌, Option, Some, None, List, [], ◌∷◌, ◌++◌, length, refl, ap, sym, ◌∙◌, subst, arith}
+use Rattle.std.proofs.Common.{◌≡◌, ℕ, ◌+◌, ◌<◌, ◌≤◌, Option, Some, None, List, [], ◌∷◌, ◌++◌, length, refl, ap, sym, ◌∙◌, arith}
 use Rattle.h2_frames.specs.NextLaws.{next_hands_out}
 use Rattle.h2_frames.specs.Reading.{Reading, Next, next_of}
 use Rattle.h2_frames.specs.Reading.Next.{NextUnfinished, NextFrame, NextFault}
 use Rattle.h2_frames.specs.StreamLaws.{frame_shortens}
 use Rattle.h2_history.specs.declared.event.CallEvent.{CallEvent}
 use Rattle.h2_history.specs.Frames.{frame_read}
-use Rattle.h2_history.specs.History.{Turn, turn_of, turn_by, turn_next, turn_told, AreQuiet, Reaches}
-use Rattle.h2_history.specs.History.Turn.{Rests, Goes, Tells}
+use Rattle.h2_history.specs.History.{turn_of, turn_by, turn_next, turn_told, AreQuiet, Reaches}
+use Rattle.h2_history.specs.History.Turn.{Goes}
 use Rattle.h2_history.specs.Puts.{broke, goaway}
 use Rattle.h2_history.specs.Standing.{Standing}
 use Rattle.h2_history.specs.Unmoved.{read_stays, out_stays}
-use Rattle.h2_layouts.specs.declared.frame.Frame.{Frame}
 
 -- 1 while the connection goes on
 abbrev pub going : Option ℕ → ℕ

@@ -1,11 +1,10 @@
 -- What neither a frame that is read nor one that is put changes: which end it is, where the next frame stands, and whether
 -- memory ran out.
 use Rattle.std.proofs.Common.{◌≡◌, ℕ, Bool, true, false, cond, Option, Some, None, List, [], ◌∷◌, ◌++◌, length, Result, Ok, Err, refl, ◌∙◌}
-use Rattle.esi_base.specs.declared.stop.Stop.TheVariants.{Refused}
 use Rattle.hpack.specs.declared.stop.BlockRule.{BlockRule}
 use Rattle.hpack.specs.Representations.{Listing}
-use Rattle.h2_flow.specs.Windows.{answer_at_receipt, answer_at_update, answer_at_setting, after_sending, after_resolving}
-use Rattle.h2_history.specs.Blocks.{Completed, completed_by, completed, completed_with, seen_by_list, begun_by_row, fragment_read, continuation_read, decoded_at, block_begun, block_grown, is_too_long, has_all_frames, too_much, list_verdict, row_wanted}
+use Rattle.h2_flow.specs.Windows.{answer_at_setting, after_sending, after_resolving}
+use Rattle.h2_history.specs.Blocks.{Completed, completed_by, completed, seen_by_list, begun_by_row, fragment_read, continuation_read, decoded_at, block_begun, block_grown, is_too_long, has_all_frames, too_much, list_verdict, row_wanted}
 use Rattle.h2_history.specs.declared.header_block.HeaderBlock.{HeaderBlock}
 use Rattle.h2_history.specs.declared.verdict.Verdict.{Verdict}
 use Rattle.h2_history.specs.declared.verdict.Verdict.TheVariants.{ConnectionError, StreamError, Ignored, Accepted}

@@ -1,5 +1,5 @@
 -- What a frame comes to where it stands, by its type, at either end.
-use Rattle.std.specs.Prelude.{ℕ, ◌+◌, ◌==◌, ◌&&◌, ◌%◌, nat_lt, nat_le, Bool, true, false, Option, Some, None, List, [], ◌∷◌, length, if◌then◌else◌}
+use Rattle.std.specs.Prelude.{ℕ, ◌==◌, ◌%◌, nat_lt, Option, Some, None, List, [], ◌∷◌, length, if◌then◌else◌}
 use Rattle.h2_flow.specs.declared.limits.TheConstants.{OPEN_STREAMS}
 use Rattle.h2_flow.specs.Windows.{receive_window, has_room_for}
 use Rattle.h2_history.specs.declared.event.CallEvent.{CallEvent}

@@ -5,9 +5,11 @@
 
 mod event;
 mod header_block;
+pub mod laws;
 pub mod limits;
 mod verdict;
 
 pub use event::CallEvent;
 pub use header_block::HeaderBlock;
+pub use laws::{history_law, output_law};
 pub use verdict::Verdict;

@@ -7,11 +7,10 @@ use Rattle.hpack.specs.declared.header.Header.{Header}
 use Rattle.hpack.specs.declared.stop.BlockRule.{BlockRule}
 use Rattle.hpack.specs.BlockReading.{block_at}
 use Rattle.hpack.specs.Decoding.{Decoding, failure}
-use Rattle.hpack.specs.Representations.{Listing}
 use Rattle.hpack.specs.Tables.{Table}
 use Rattle.h2_history.specs.Blocks.{decoded_at}
 use Rattle.h2_history.specs.Standing.{Standing, table_or_stop, tables_of}
-use Rattle.h2_streams.specs.Decoding.{Decodes, IsRead, IsRefused}
+use Rattle.h2_streams.specs.Decoding.{Decodes}
 
 -- of a decoder that has failed
 decodes_failed : (stop : Stop BlockRule) (s : Standing) (new : Result Table (Stop BlockRule)) (octets : List ℕ) → s.tables ≡ Err stop → new ≡ Err stop → Decodes s octets (Err stop) (record s { tables = new })

@@ -4,7 +4,7 @@ use Rattle.hpack.specs.declared.header.Header.{Header}
 use Rattle.h2_history.specs.declared.event.CallEvent.{CallEvent}
 use Rattle.h2_history.specs.declared.event.CallEvent.TheVariants as events
 use Rattle.h2_history.specs.declared.verdict.Verdict.{Verdict}
-use Rattle.h2_history.specs.declared.verdict.Verdict.TheVariants.{ConnectionError, StreamError, Ignored, Accepted}
+use Rattle.h2_history.specs.declared.verdict.Verdict.TheVariants.{ConnectionError, StreamError}
 use Rattle.h2_history.specs.Verdicts.{told}
 
 abbrev pub told_of_list : Verdict → ℕ → List Header → Bool → Option CallEvent

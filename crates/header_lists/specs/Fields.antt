@@ -1,5 +1,5 @@
 -- Header fields, one at a time (RFC 9113, sections 8.2 and 8.3).
-use Rattle.std.specs.Prelude.{ℕ, Bool, true, false, not, ◌||◌, ◌&&◌, ◌==◌, nat_le, bytes_eq, codes, List, [], ◌∷◌, if◌then◌else◌}
+use Rattle.std.specs.Prelude.{ℕ, Bool, true, false, not, ◌||◌, ◌&&◌, ◌==◌, nat_le, bytes_eq, codes, List, [], ◌∷◌}
 use Rattle.std.specs.List.{list_any}
 use Rattle.hpack.specs.declared.header.Header.{Header}
 

@@ -1,5 +1,5 @@
 -- Header lists that are malformed, computed (RFC 9113, sections 8.2 and 8.3).
-use Rattle.std.specs.Prelude.{ℕ, Bool, true, false, not, ◌||◌, ◌&&◌, ◌==◌, nat_le, bytes_eq, codes, List, [], ◌∷◌, drop, if◌then◌else◌}
+use Rattle.std.specs.Prelude.{ℕ, Bool, false, not, ◌||◌, ◌&&◌, ◌==◌, nat_le, bytes_eq, codes, List, [], ◌∷◌, drop, if◌then◌else◌}
 use Rattle.std.specs.List.{list_any, prefix_len}
 use Rattle.hpack.specs.declared.header.Header.{Header}
 use Rattle.header_lists.specs.declared.kind.ListKind.{ListKind}

@@ -1,4 +1,7 @@
 //! One end of a connection, and what is done with it.
+ghost use Rattle.std.specs.Prelude.{◌≡◌, ◌≤◌, ◌++◌, ◌∷◌, [], IfOk, OnOk};
+ghost use Rattle.hpack.specs.Tables.{list_size};
+ghost use Rattle.hpack.specs.declared.limits.TheConstants.{MAX_HEADER_LIST_SIZE};
 
 use crate::{parts, text};
 use esi_base::{List, Octets, Poll};
@@ -6,12 +9,23 @@ use h2_streams::{CallEvent, Conn, OpenStop};
 use hpack::{Header, Headers};
 use std::alloc::{AllocError, Global};
 
+/// The types and the flag of the frames that `visit` and `fill` feed.
+const DATA: u8 = 0;
+
+const HEADERS: u8 = 1;
+
+const RST_STREAM: u8 = 3;
+
+const END_HEADERS: u8 = 4;
+
 /// An end, and what has happened on it.
 #[derive(Drop)]
 struct Session {
     alloc: Global,
     conn: Conn,
     single: bool,
+    next: u32,
+    events: u64,
     log: String,
 }
 
@@ -27,6 +41,8 @@ pub fn answer(
         alloc,
         conn,
         single,
+        next: 1,
+        events: 0,
         log: String::new(alloc),
     };
     let mut first = true;
@@ -80,6 +96,8 @@ impl Session {
             "finish" => self.finish(stream)?,
             "reset" => self.reset(stream, count)?,
             "back" => self.give_back(stream, count)?,
+            "visit" => self.visit(stream)?,
+            "fill" => self.fill(stream, count)?,
             _ => return self.feed_word(word),
         }
         Ok(true)
@@ -148,6 +166,70 @@ impl Session {
         self.log.push_str(output.as_str())
     }
 
+    /// Feeds HEADERS of the next streams and RST_STREAM behind each, and tells how many events came.
+    fn visit(&mut self, count: u32) -> Result<(), AllocError> {
+        self.events = 0;
+        for _ in 0..count {
+            let stream = self.next_stream();
+            self.feed_frame(HEADERS, END_HEADERS, stream, b"\x83\x86\x04\x01/")?;
+            self.feed_frame(RST_STREAM, 0, stream, &[0, 0, 0, 0])?;
+        }
+        self.tell_events()
+    }
+
+    /// Feeds HEADERS of the next streams and DATA of so many octets behind each.
+    fn fill(&mut self, count: u32, octets: u32) -> Result<(), AllocError> {
+        self.events = 0;
+        let payload = Vec::from_elem(self.alloc, 0u8, octets as usize)?;
+        for _ in 0..count {
+            let stream = self.next_stream();
+            self.feed_frame(HEADERS, END_HEADERS, stream, b"\x83\x86\x04\x01/")?;
+            self.feed_frame(DATA, 0, stream, payload.as_slice())?;
+        }
+        self.tell_events()
+    }
+
+    fn next_stream(&mut self) -> u32 {
+        let stream = self.next;
+        self.next = stream.wrapping_add(2);
+        stream
+    }
+
+    /// Feeds a frame, and counts what happens.
+    fn feed_frame(
+        &mut self,
+        kind: u8,
+        flags: u8,
+        stream: u32,
+        payload: &[u8],
+    ) -> Result<(), AllocError> {
+        let [_, a, b, c] = (payload.len().min(16_384) as u32).to_be_bytes();
+        let [s, t, u, v] = stream.to_be_bytes();
+        self.feed_counted(&[a, b, c, kind, flags, s, t, u, v])?;
+        self.feed_counted(payload)
+    }
+
+    fn feed_counted(&mut self, octets: &[u8]) -> Result<(), AllocError> {
+        if self.conn.feed(octets).is_err() {
+            return Err(AllocError);
+        }
+        for _ in 0..1_000 {
+            match self.conn.poll_call() {
+                Poll::Pending => return Ok(()),
+                Poll::Ready(Err(_failed)) => return Err(AllocError),
+                Poll::Ready(Ok(CallEvent::Broken { .. })) => return Ok(()),
+                Poll::Ready(Ok(_event)) => self.events = self.events.wrapping_add(1),
+            }
+        }
+        Ok(())
+    }
+
+    fn tell_events(&mut self) -> Result<(), AllocError> {
+        let events = self.events;
+        let text = format!(in self.alloc; "{events} events")?;
+        self.tell(text.as_str())
+    }
+
     /// Opens so many calls, one at least.
     fn open(&mut self, count: u32) -> Result<(), AllocError> {
         for _ in 0..count.max(1) {
@@ -182,8 +264,11 @@ impl Session {
     /// Puts octets of DATA, in as many frames as it takes, and tells how many.
     fn send(&mut self, stream: u32, count: u32) -> Result<(), AllocError> {
         let octets = Vec::from_elem(self.alloc, 0u8, count as usize)?;
-        let mut sent = 0;
-        while sent < octets.len() {
+        let mut sent: usize = 0;
+        for _ in 0..1_000_000 {
+            if sent >= octets.len() {
+                break;
+            }
             if self.conn.is_broken() || !self.conn.can_send(stream) {
                 return self.tell("may not send");
             }
@@ -192,7 +277,7 @@ impl Session {
                     let text = format!(in self.alloc; "sent {sent}, pending")?;
                     return self.tell(text.as_str());
                 }
-                Poll::Ready(more) => sent += more,
+                Poll::Ready(more) => sent = sent.saturating_add(more),
             }
         }
         let text = format!(in self.alloc; "sent {sent}")?;
@@ -230,7 +315,9 @@ fn number(piece: Option<&str>) -> u32 {
 }
 
 /// A header.
-fn header(alloc: Global, name: &[u8], value: &[u8]) -> Result<Header, AllocError> {
+fn header(alloc: Global, name: &[u8], value: &[u8]) -> Result<Header, AllocError>
+    ensures { IfOk result (λ header. header ≡ record { name = name.now; value = value.now }) }
+{
     Ok(Header {
         name: Octets::from_slice(alloc, name)?,
         value: Octets::from_slice(alloc, value)?,
@@ -238,17 +325,31 @@ fn header(alloc: Global, name: &[u8], value: &[u8]) -> Result<Header, AllocError
 }
 
 /// A request's header list.
-fn request(alloc: Global) -> Result<Headers, AllocError> {
-    let mut headers = Vec::new(alloc);
-    headers.push(header(alloc, b":method", b"GET")?)?;
-    headers.push(header(alloc, b":scheme", b"http")?)?;
-    headers.push(header(alloc, b":path", b"/")?)?;
-    Ok(List::from_vec(headers))
+fn request(alloc: Global) -> Result<Headers, AllocError>
+    ensures { IfOk result (λ headers. list_size headers ≤ MAX_HEADER_LIST_SIZE) }
+{
+    let mut headers = List::new(alloc);
+    add(&mut headers, header(alloc, b":method", b"GET")?)?;
+    add(&mut headers, header(alloc, b":scheme", b"http")?)?;
+    add(&mut headers, header(alloc, b":path", b"/")?)?;
+    Ok(headers)
 }
 
 /// A reply's.
-fn reply(alloc: Global) -> Result<Headers, AllocError> {
-    let mut headers = Vec::new(alloc);
-    headers.push(header(alloc, b":status", b"200")?)?;
-    Ok(List::from_vec(headers))
+fn reply(alloc: Global) -> Result<Headers, AllocError>
+    ensures { IfOk result (λ headers. list_size headers ≤ MAX_HEADER_LIST_SIZE) }
+{
+    let mut headers = List::new(alloc);
+    add(&mut headers, header(alloc, b":status", b"200")?)?;
+    Ok(headers)
+}
+
+/// Adds a header at the end.
+fn add(headers: &mut Headers, header: Header) -> Result<(), AllocError>
+    ensures { OnOk result (headers.new ≡ headers.old ++ header ∷ []) }
+{
+    match headers.add(header) {
+        Ok(()) => Ok(()),
+        Err(_failed) => Err(AllocError),
+    }
 }

@@ -46,14 +46,20 @@ fn of_headers(alloc: Global, headers: &Headers) -> Result<String, AllocError> {
     let mut text = String::new(alloc);
     for header in headers.as_slice() {
         text.push_str(" ")?;
-        push_ascii(&mut text, header.name.as_slice())?;
+        push_ascii(&mut text, header.name.as_slice(), alloc)?;
         text.push_str("=")?;
-        push_ascii(&mut text, header.value.as_slice())?;
+        push_ascii(&mut text, header.value.as_slice(), alloc)?;
     }
     Ok(text)
 }
 
-fn push_ascii(text: &mut String, octets: &[u8]) -> Result<(), AllocError> {
+/// Adds octets as characters; of many how many there are.
+fn push_ascii(text: &mut String, octets: &[u8], alloc: Global) -> Result<(), AllocError> {
+    if octets.len() > SHOWN {
+        let count = octets.len();
+        let note = format!(in alloc; "({count} octets)")?;
+        return text.push_str(note.as_str());
+    }
     for octet in octets {
         text.push(*octet as char)?;
     }
