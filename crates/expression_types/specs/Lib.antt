@@ -6,3 +6,4 @@ pub mod Meaning
 pub mod PartLaws
 pub mod OperatorLaws
 pub mod MeaningLaws
+pub mod Rows
