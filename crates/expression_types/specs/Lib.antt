@@ -7,3 +7,6 @@ pub mod PartLaws
 pub mod OperatorLaws
 pub mod MeaningLaws
 pub mod Rows
+pub mod RowTests
+pub mod RowLaws
+pub mod TableLaws
