@@ -10,3 +10,4 @@ pub mod Rows
 pub mod RowTests
 pub mod RowLaws
 pub mod TableLaws
+pub mod GoodTypes

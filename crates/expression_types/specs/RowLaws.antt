@@ -1,5 +1,5 @@
 -- Each row of the table holds exactly where the operation that computes it succeeds, and with what it gives.
-use Rattle.std.proofs.Common.{◌≡◌, ℕ, zero, suc, ◌+◌, ◌-◌, ◌*◌, ◌^◌, ◌<◌, ◌≤◌, Bool, true, false, Option, Some, None, List, [], ◌∷◌, length, map, replicate, refl, ap, sym, ◌∙◌, subst, arith}
+use Rattle.std.proofs.Common.{◌≡◌, ℕ, zero, suc, ◌+◌, ◌-◌, ◌*◌, ◌^◌, ◌<◌, ◌≤◌, Bool, true, false, Option, Some, None, List, [], ◌∷◌, map, replicate, refl, ap, sym, ◌∙◌, subst, arith}
 use Rattle.std.specs.Prelude.{if◌then◌else◌, nat_le, nat_lt, ◌&&◌, ◌||◌, not, ◌==◌, Ok, Err}
 use Rattle.std.proofs.lemmas.Bool.{and_parts, and_from, eqb-true, eq-eqb, leb-true, le-leb, ltb-true, lt-ltb, false_from_ne_true}
 use Rattle.std.proofs.lemmas.Option.{same_Some}
@@ -24,7 +24,6 @@ use Rattle.netlist.specs.declared.formula.Formula.{Formula}
 use Rattle.netlist.specs.declared.formula.Formula.TheVariants as F
 use Rattle.netlist.specs.FormulaLaws.{chosen}
 use Rattle.netlist.specs.Nets.{Bits}
-use Rattle.design_tree.specs.declared.leaves.Name.{Name}
 use Rattle.design_tree.specs.declared.leaves.Number.{Number}
 use Rattle.design_tree.specs.declared.operators.Binary.{Binary}
 use Rattle.design_tree.specs.declared.operators.Binary.TheVariants.{And, Or, Xor, Add, Sub, Eq, Lt, Cat}
@@ -37,7 +36,7 @@ use Rattle.design_tree.specs.declared.expression.Expression.TheOpen.{Expression-
 use Rattle.design_tree.specs.declared.expression.Expression.TheViews.{out-Expression, roll-Expression, roll-out-Expression}
 use Rattle.expression_types.specs.declared.number_type.NumberType.{NumberType}
 use Rattle.expression_types.specs.Views.{Variable, Typed, Piece, Parts}
-use Rattle.expression_types.specs.Typing.{Typing, made, value_width, number_type, is_unsigned, is_signed, has_void, BIT, variable_from, field_piece, element_piece, level_field, level_element, field_of, element_of, piece_of, sliced, part_at, part_within, part_of, parts_of, level_literal, literal_word, literal_at, literal_of, fields_given, elements_given, level_joined, join_of, make_joined, make_within, make_of, same_width, cast_of, extends, extended, zext_at, zext_of, slice_at, slice_of, not_at, not_of, common_number, bitwise_at, is_narrow, is_arithmetic, arithmetic_at, less_at, cat_at, pair_type, pair_formula, pair_at, pair_of, is_bit, mux_of}
+use Rattle.expression_types.specs.Typing.{Typing, made, value_width, number_type, is_unsigned, is_signed, has_void, BIT, variable_from, field_piece, level_field, level_element, field_of, element_of, piece_of, sliced, part_at, part_within, part_of, parts_of, level_literal, literal_word, literal_at, literal_of, fields_given, elements_given, level_joined, join_of, make_joined, make_within, make_of, same_width, cast_of, extends, extended, zext_at, zext_of, slice_at, slice_of, not_at, not_of, common_number, bitwise_at, is_narrow, is_arithmetic, arithmetic_at, less_at, cat_at, pair_at, pair_of, is_bit, mux_of}
 use Rattle.expression_types.specs.WidthLaws.{HasWidth, value_has, has_value, IsNumber, number_is}
 use Rattle.expression_types.specs.OperatorLaws.{typed_as, same_typed, made_if}
 use Rattle.expression_types.specs.MeaningLaws.{bound}

@@ -1,9 +1,9 @@
 -- What the tests of the table say: each is true exactly where its condition holds.
-use Rattle.std.proofs.Common.{◌≡◌, ℕ, zero, suc, ◌+◌, ◌<◌, ◌≤◌, Bool, true, false, Option, Some, None, List, [], ◌∷◌, length, drop, map, replicate, refl, ap, sym, ◌∙◌, subst, arith}
-use Rattle.std.specs.Prelude.{slice_get, if◌then◌else◌, nat_le, nat_lt, ◌&&◌, ◌||◌, not, ◌==◌, Ok}
+use Rattle.std.proofs.Common.{◌≡◌, ℕ, zero, suc, ◌+◌, ◌<◌, Bool, true, false, Option, Some, None, List, [], ◌∷◌, length, drop, map, replicate, refl, ap, sym, ◌∙◌, arith}
+use Rattle.std.specs.Prelude.{slice_get, if◌then◌else◌, nat_le, ◌||◌, not, ◌==◌, Ok}
 use Rattle.std.specs.List.{sum_by}
 use Rattle.std.specs.Str.{bytes_eq}
-use Rattle.std.proofs.lemmas.Bool.{and_parts, and_from, eqb-true, eq-eqb, leb-true, le-leb}
+use Rattle.std.proofs.lemmas.Bool.{and_parts, and_from, eqb-true, eq-eqb, le-leb}
 use Rattle.std.proofs.lemmas.Option.{same_Some}
 use Rattle.std.proofs.lemmas.List.{length-replicate}
 use Rattle.std.proofs.lemmas.Slice.Eq.{bytes_eq-Decides}
@@ -11,7 +11,6 @@ use Rattle.design_lex.specs.declared.token.Class.{Class}
 use Rattle.design_lex.specs.declared.token.Class.TheVariants.{Unsigned, Signed, Plain}
 use Rattle.design_lex.specs.declared.limits.TheConstants.{WIDEST_TYPE}
 use Rattle.channel_types.specs.declared.esi_type.EsiType.{EsiType}
-use Rattle.channel_types.specs.declared.esi_type.EsiType.TheVariants as T
 use Rattle.channel_types.specs.declared.esi_type.EsiType.TheVariants.{outs-Bits}
 use Rattle.channel_types.specs.declared.esi_type.EsiType.TheViews.{out-EsiType}
 use Rattle.channel_types.specs.declared.esi_type.Field.{Field}

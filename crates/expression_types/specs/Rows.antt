@@ -8,9 +8,8 @@ use Rattle.design_lex.specs.declared.token.Class.TheVariants.{Unsigned, Signed, 
 use Rattle.design_lex.specs.declared.limits.TheConstants.{WIDEST_TYPE}
 use Rattle.channel_types.specs.declared.esi_type.EsiType.{EsiType}
 use Rattle.channel_types.specs.declared.esi_type.EsiType.TheVariants as T
-use Rattle.channel_types.specs.declared.esi_type.EsiType.TheOpen.{EsiType-F, Field-F}
 use Rattle.channel_types.specs.declared.esi_type.Field.{Field}
-use Rattle.channel_types.specs.Types.{width_of, field_width}
+use Rattle.channel_types.specs.Types.{field_width}
 use Rattle.netlist.specs.declared.limits.TheConstants.{MAX_NUMBER_WIDTH}
 use Rattle.netlist.specs.declared.formula.Half.TheVariants.{High, Low}
 use Rattle.netlist.specs.declared.formula.Formula.{Formula}

@@ -19,8 +19,7 @@ use Rattle.design_tree.specs.declared.expression.Expression.TheViews.{out-Expres
 use Rattle.design_tree.specs.declared.expression.Expression.TheFolds as folds
 use Rattle.expression_types.specs.declared.number_type.NumberType.{NumberType}
 use Rattle.expression_types.specs.Views.{Variable, Typed, Piece, Parts}
-use Rattle.expression_types.specs.Typing.{Typing, made, value_width, number_type, has_void, variable_from, sliced, part_at, part_within, part_of, piece_of, parts_of, literal_word, literal_at, no_parts, with_part, gathered, join_of, make_joined, make_within, make_of, same_width, extends, extended, zext_at, slice_at, not_at, pair_type, pair_formula, pair_at, is_bit, typed_step, typed}
-use Rattle.expression_types.specs.OperatorLaws.{same_typed}
+use Rattle.expression_types.specs.Typing.{Typing, made, value_width, number_type, has_void, variable_from, sliced, part_at, part_within, part_of, piece_of, parts_of, literal_word, literal_at, no_parts, with_part, gathered, join_of, make_joined, make_within, make_of, same_width, extends, zext_at, slice_at, not_at, pair_type, pair_formula, pair_at, is_bit, typed_step, typed}
 use Rattle.expression_types.specs.MeaningLaws.{bound}
 use Rattle.expression_types.specs.RowLaws.{with_none, with_one, with_two, with_three, parts_in, level_row, row_found, row_given}
 use Rattle.expression_types.specs.Rows as R
@@ -89,7 +88,7 @@ place_in (Ok t) = t.at
 place_in (Err at) = at
 
 -- what stands beside an element in a list as long
-beside : {A B : Type 0} (xs : List A) (ys : List B) (k : ℕ) (x : A) → length ys ≡ length xs → slice_get xs k ≡ Some x → (y : B) × (slice_get ys k ≡ Some y)
+pub beside : {A B : Type 0} (xs : List A) (ys : List B) (k : ℕ) (x : A) → length ys ≡ length xs → slice_get xs k ≡ Some x → (y : B) × (slice_get ys k ≡ Some y)
 beside [] ys k x long s = absurd (cc)
 beside (a ∷ xs) [] k x long s = absurd (omega (arith, long))
 beside (a ∷ xs) (b ∷ ys) zero x long s = (b, refl)
@@ -342,7 +341,7 @@ module _ (vs : List Variable) where
 
   -- ---- types
 
-  type_found : (e : Expression) (t : Typed) → typed vs e ≡ Ok t → HasType vs e t
+  pub type_found : (e : Expression) (t : Typed) → typed vs e ≡ Ok t → HasType vs e t
   type_found = by_operands (λ e. (t : Typed) → typed vs e ≡ Ok t → HasType vs e t) (λ e ih t same.
       let b = bound (of_operands e) (level_row vs (out-Expression e)) t (sym (factor e) ∙ same) in
       let g = gather_ok (typed vs) (operands e) b.0 b.1 in

@@ -1,4 +1,5 @@
 //! The laws of the definitions, as the contracts of functions that do nothing.
+ghost use Rattle.expression_types.specs.GoodTypes.{GoodTypesStayGood};
 ghost use Rattle.expression_types.specs.MeaningLaws.{EachMeans};
 ghost use Rattle.expression_types.specs.TableLaws.{EachFollowsTable};
 
@@ -13,4 +14,9 @@ pub fn meaning_law()
 /// innermost expression whose condition is broken, the first in the order of the text.
 pub fn table_law()
     ensures { EachFollowsTable }
+{}
+
+/// An expression over variables of good types, with good types in its text, has a good type.
+pub fn good_types_law()
+    ensures { GoodTypesStayGood }
 {}
