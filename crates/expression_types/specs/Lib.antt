@@ -6,3 +6,8 @@ pub mod Meaning
 pub mod PartLaws
 pub mod OperatorLaws
 pub mod MeaningLaws
+pub mod Rows
+pub mod RowTests
+pub mod RowLaws
+pub mod TableLaws
+pub mod GoodTypes

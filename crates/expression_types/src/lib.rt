@@ -18,7 +18,7 @@ mod variables;
 mod voids;
 
 pub use expression::type_expression;
-pub use laws::meaning_law;
+pub use laws::{good_types_law, meaning_law, table_law};
 pub use limits::MAX_VARIABLES;
 pub use literals::literal_word;
 pub use number_type::NumberType;
