@@ -1,0 +1,21 @@
+//! The windows as sums over a history.
+ghost use Rattle.std.specs.Prelude.{◌<◌, ℕ, List};
+ghost use Rattle.h2_flow.specs.History.{AreConnectionSums, AreStreamSums};
+ghost use Rattle.h2_history.specs.History.{Entry, new_standing};
+ghost use Rattle.h2_history.specs.Runs.{Call, IsRun};
+ghost use Rattle.h2_history.specs.Standing.{Standing};
+ghost use Rattle.h2_layouts.specs.declared.role.Role.{Role};
+ghost use Rattle.stream_laws.specs.NoData.{SendsByWindow};
+ghost use Rattle.stream_laws.specs.Windows.{window_calls};
+
+/// After any calls of a new end, in which DATA with octets is put within the windows as `poll_send` does,
+/// the connection's windows and each open stream's are the sums over the entries.
+#[tactic(auto, using(crate::specs::WithinLaws::connection_windows))]
+pub fn windows_law()
+    ensures connection { (role : Role) (calls : List Call) (entries : List Entry) (new : Standing)
+        → SendsByWindow calls → IsRun (new_standing role) calls entries new
+        → AreConnectionSums (window_calls role entries) new.flow }
+    ensures stream { (role : Role) (calls : List Call) (entries : List Entry) (new : Standing) (stream : ℕ)
+        → 0 < stream → SendsByWindow calls → IsRun (new_standing role) calls entries new
+        → AreStreamSums stream (window_calls role entries) new.flow }
+{}
