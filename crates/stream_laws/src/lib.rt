@@ -2,6 +2,8 @@
 //! are open, and how much DATA the windows let through, as questions of the entries.
 #![tactic(auto)]
 
+pub mod streams;
 pub mod windows;
 
+pub use streams::streams_law;
 pub use windows::windows_law;
