@@ -3,6 +3,8 @@ pub mod TypeRules
 pub mod Text
 pub mod Equations
 pub mod Goods
+pub mod SameTypes
+pub mod SameTypesLaws
 pub mod TypeGrammar
 pub mod TypeRuleLaws
 pub mod TypeAnswers

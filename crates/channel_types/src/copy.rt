@@ -18,8 +18,8 @@ impl EsiType {
     }
 }
 
-/// A copy of a type that need not be good.
-fn copied(alloc: Global, ty: &EsiType) -> Result<EsiType, NoMemory>
+/// A copy of a type, which need not be good.
+pub fn copied(alloc: Global, ty: &EsiType) -> Result<EsiType, NoMemory>
     ensures { IfOk result (λ copy. copy ≡ ty.now) }
 {
     match ty {

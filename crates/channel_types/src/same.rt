@@ -1,6 +1,8 @@
 //! When two types are the same.
 ghost use Rattle.std.specs.Prelude.{◌≡◌, IsTrue, ◌↔◌};
 ghost use Rattle.channel_types.specs.Types.{IsGoodType};
+ghost use Rattle.channel_types.specs.SameTypes.{same_types};
+ghost use Rattle.channel_types.specs.SameTypesLaws.{IsTest};
 
 use crate::esi_type::{EsiType, Field};
 
@@ -15,9 +17,20 @@ impl EsiType {
     }
 }
 
-/// Whether the two, which need not be good, are one type.
+/// Whether the two, which need not be good, are one type, their fields' names included. It takes no
+/// memory.
+pub fn are_same(ty: &EsiType, other: &EsiType) -> bool
+    ensures same { IsTrue result ↔ (ty.now ≡ other.now) }
+
+    // What it gives can be worked out.
+    ensures computed { result ≡ same_types ty.now other.now }
+{
+    are_one(ty, other)
+}
+
+/// Whether the two are one type.
 #[cycle(same)]
-fn are_same(ty: &EsiType, other: &EsiType) -> bool
+fn are_one(ty: &EsiType, other: &EsiType) -> bool
     ensures { IsTrue result ↔ (ty.now ≡ other.now) }
 {
     match (ty, other) {
@@ -38,7 +51,7 @@ fn are_same(ty: &EsiType, other: &EsiType) -> bool
                 item: other_item,
                 count: other_count,
             },
-        ) => *count == *other_count && are_same(item.get(), other_item.get()),
+        ) => *count == *other_count && are_one(item.get(), other_item.get()),
         _ => false,
     }
 }
@@ -52,9 +65,15 @@ fn have_same_fields(fields: &[Field], others: &[Field]) -> bool
         return false;
     }
     for (field, other) in fields.iter().zip(others) {
-        if field.name.as_slice() != other.name.as_slice() || !are_same(&field.ty, &other.ty) {
+        if field.name.as_slice() != other.name.as_slice() || !are_one(&field.ty, &other.ty) {
             return false;
         }
     }
     true
 }
+
+/// `same_types` decides whether two types are one. It does nothing when it runs.
+#[tactic(auto, using(crate::specs::SameTypesLaws::is_test))]
+pub fn same_types_law()
+    ensures { (ty : EsiType) → IsTest ty }
+{}

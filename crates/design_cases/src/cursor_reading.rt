@@ -47,42 +47,53 @@ pub fn add_refusal(alloc: Global, out: &mut String, stop: TokenStop) -> Result<(
     }
 }
 
-/// What one reader answers; None where it is no reader.
-fn read(
-    alloc: Global,
-    cursor: &mut Cursor<'_>,
-    reader: &str,
-) -> Result<Result<Option<String>, TokenStop>, NoMemory> {
+/// What a reader answers: a text or its refusal; None where it is no reader.
+type Answer = Result<Option<String>, TokenStop>;
+
+/// What one reader answers.
+fn read(alloc: Global, cursor: &mut Cursor<'_>, reader: &str) -> Result<Answer, NoMemory> {
     match reader {
-        "name" => match name(cursor, alloc) {
-            Ok((octets, at)) => Ok(Ok(Some(named(alloc, octets.as_slice(), at)?))),
-            Err(stop) => Ok(Err(stop)),
-        },
-        "count" => match count(cursor) {
-            Ok(count) => Ok(Ok(Some(format!(in alloc; "{count}")?))),
-            Err(stop) => Ok(Err(stop)),
-        },
-        "number" => match number(cursor) {
-            Ok((value, at)) => Ok(Ok(Some(format!(in alloc; "{value}@{at}")?))),
-            Err(stop) => Ok(Err(stop)),
-        },
-        "type-word" => match type_word(cursor) {
-            Ok(((class, width), end)) => {
-                let class = class_word(class);
-                Ok(Ok(Some(format!(in alloc; "{class}:{width}..{end}")?)))
-            }
-            Err(stop) => Ok(Err(stop)),
-        },
+        "name" => name_text(alloc, cursor),
+        "count" => count_text(alloc, cursor),
+        "number" => number_text(alloc, cursor),
+        "type-word" => type_word_text(alloc, cursor),
         _ => read_kind(alloc, cursor, reader),
     }
 }
 
-/// What a reader of one kind answers: `expect:comma`, `begin:name`, `operator:add`.
-fn read_kind(
-    alloc: Global,
-    cursor: &mut Cursor<'_>,
-    reader: &str,
-) -> Result<Result<Option<String>, TokenStop>, NoMemory> {
+fn name_text(alloc: Global, cursor: &mut Cursor<'_>) -> Result<Answer, NoMemory> {
+    match name(cursor, alloc) {
+        Ok((octets, at)) => Ok(Ok(Some(named(alloc, octets.as_slice(), at)?))),
+        Err(stop) => Ok(Err(stop)),
+    }
+}
+
+fn count_text(alloc: Global, cursor: &mut Cursor<'_>) -> Result<Answer, NoMemory> {
+    match count(cursor) {
+        Ok(count) => Ok(Ok(Some(format!(in alloc; "{count}")?))),
+        Err(stop) => Ok(Err(stop)),
+    }
+}
+
+fn number_text(alloc: Global, cursor: &mut Cursor<'_>) -> Result<Answer, NoMemory> {
+    match number(cursor) {
+        Ok((value, at)) => Ok(Ok(Some(format!(in alloc; "{value}@{at}")?))),
+        Err(stop) => Ok(Err(stop)),
+    }
+}
+
+fn type_word_text(alloc: Global, cursor: &mut Cursor<'_>) -> Result<Answer, NoMemory> {
+    match type_word(cursor) {
+        Ok(((class, width), end)) => {
+            let class = class_word(class);
+            Ok(Ok(Some(format!(in alloc; "{class}:{width}..{end}")?)))
+        }
+        Err(stop) => Ok(Err(stop)),
+    }
+}
+
+/// What a reader of one kind answers: `expect:comma`, `begin:name`, `operator:add`, `kind:lit`.
+fn read_kind(alloc: Global, cursor: &mut Cursor<'_>, reader: &str) -> Result<Answer, NoMemory> {
     let Some((reader, kind)) = reader.split_once(":") else {
         return Ok(Ok(None));
     };
@@ -90,27 +101,41 @@ fn read_kind(
         return Ok(Ok(None));
     };
     match reader {
-        "expect" => match expect(cursor, kind) {
-            Ok(end) => Ok(Ok(Some(format!(in alloc; "..{end}")?))),
-            Err(stop) => Ok(Err(stop)),
-        },
-        "begin" => match begin(cursor, kind) {
-            Ok(at) => Ok(Ok(Some(format!(in alloc; "@{at}")?))),
-            Err(stop) => Ok(Err(stop)),
-        },
-        "kind" => {
-            let answer = if is_same(kind_of(cursor.peek()), kind) {
-                "yes"
-            } else {
-                "no"
-            };
-            Ok(Ok(Some(String::from_str(alloc, answer)?)))
-        }
-        "operator" => match operator(cursor, kind) {
-            Ok((word, at)) => Ok(Ok(Some(named(alloc, word.octets(), at)?))),
-            Err(stop) => Ok(Err(stop)),
-        },
+        "expect" => expect_text(alloc, cursor, kind),
+        "begin" => begin_text(alloc, cursor, kind),
+        "kind" => kind_text(alloc, cursor, kind),
+        "operator" => operator_text(alloc, cursor, kind),
         _ => Ok(Ok(None)),
+    }
+}
+
+fn expect_text(alloc: Global, cursor: &mut Cursor<'_>, kind: Kind) -> Result<Answer, NoMemory> {
+    match expect(cursor, kind) {
+        Ok(end) => Ok(Ok(Some(format!(in alloc; "..{end}")?))),
+        Err(stop) => Ok(Err(stop)),
+    }
+}
+
+fn begin_text(alloc: Global, cursor: &mut Cursor<'_>, kind: Kind) -> Result<Answer, NoMemory> {
+    match begin(cursor, kind) {
+        Ok(at) => Ok(Ok(Some(format!(in alloc; "@{at}")?))),
+        Err(stop) => Ok(Err(stop)),
+    }
+}
+
+fn kind_text(alloc: Global, cursor: &Cursor<'_>, kind: Kind) -> Result<Answer, NoMemory> {
+    let answer = if is_same(kind_of(cursor.peek()), kind) {
+        "yes"
+    } else {
+        "no"
+    };
+    Ok(Ok(Some(String::from_str(alloc, answer)?)))
+}
+
+fn operator_text(alloc: Global, cursor: &mut Cursor<'_>, kind: Kind) -> Result<Answer, NoMemory> {
+    match operator(cursor, kind) {
+        Ok((word, at)) => Ok(Ok(Some(named(alloc, word.octets(), at)?))),
+        Err(stop) => Ok(Err(stop)),
     }
 }
 
@@ -122,32 +147,39 @@ fn named(alloc: Global, octets: &[u8], at: usize) -> Result<String, NoMemory> {
     Ok(out)
 }
 
+/// The words of a case for kinds.
+const KINDS: [(&str, Kind); 23] = [
+    ("name", Kind::Name),
+    ("version", Kind::One),
+    ("count", Kind::Small),
+    ("number", Kind::Great),
+    ("comma", Kind::Comma),
+    ("less", Kind::Less),
+    ("pipe", Kind::Pipe),
+    ("stages", Kind::Stages),
+    ("lit", Kind::Lit),
+    ("make", Kind::Make),
+    ("cast", Kind::Cast),
+    ("zext", Kind::Zext),
+    ("slice", Kind::Slice),
+    ("not", Kind::Not),
+    ("and", Kind::And),
+    ("or", Kind::Or),
+    ("xor", Kind::Xor),
+    ("add", Kind::Add),
+    ("sub", Kind::Sub),
+    ("eq", Kind::Eq),
+    ("lt", Kind::Lt),
+    ("cat", Kind::Cat),
+    ("mux", Kind::Mux),
+];
+
 /// The kind of a word of a case.
 fn kind_named(word: &str) -> Option<Kind> {
-    match word {
-        "name" => Some(Kind::Name),
-        "version" => Some(Kind::One),
-        "count" => Some(Kind::Small),
-        "number" => Some(Kind::Great),
-        "comma" => Some(Kind::Comma),
-        "less" => Some(Kind::Less),
-        "pipe" => Some(Kind::Pipe),
-        "stages" => Some(Kind::Stages),
-        "lit" => Some(Kind::Lit),
-        "make" => Some(Kind::Make),
-        "cast" => Some(Kind::Cast),
-        "zext" => Some(Kind::Zext),
-        "slice" => Some(Kind::Slice),
-        "not" => Some(Kind::Not),
-        "and" => Some(Kind::And),
-        "or" => Some(Kind::Or),
-        "xor" => Some(Kind::Xor),
-        "add" => Some(Kind::Add),
-        "sub" => Some(Kind::Sub),
-        "eq" => Some(Kind::Eq),
-        "lt" => Some(Kind::Lt),
-        "cat" => Some(Kind::Cat),
-        "mux" => Some(Kind::Mux),
-        _ => None,
+    for entry in &KINDS {
+        if entry.0 == word {
+            return Some(entry.1);
+        }
     }
+    None
 }

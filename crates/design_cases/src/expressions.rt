@@ -85,74 +85,96 @@ fn show_suffix(alloc: Global, out: &mut String, suffix: &Suffix) -> Result<(), N
     }
 }
 
+/// Adds the operator of an expression with the offset of its first octet, and the types and numbers between
+/// its parentheses; nothing of a variable or a part.
+fn show_operator_of(
+    alloc: Global,
+    out: &mut String,
+    expression: &Expression,
+) -> Result<(), NoMemory> {
+    match expression {
+        Expression::Variable(_) | Expression::Part { .. } => Ok(()),
+        Expression::Literal { at, ty, value } => {
+            show_operator(alloc, out, "lit", *at)?;
+            show_type(alloc, out, ty)?;
+            show_number(alloc, out, value)
+        }
+        Expression::Make { at, ty, .. } => show_typed(alloc, out, "make", *at, ty),
+        Expression::Cast { at, ty, .. } => show_typed(alloc, out, "cast", *at, ty),
+        Expression::Zext { at, width, .. } => {
+            show_operator(alloc, out, "zext", *at)?;
+            show_number(alloc, out, width)
+        }
+        Expression::Slice { at, high, low, .. } => {
+            show_operator(alloc, out, "slice", *at)?;
+            show_number(alloc, out, high)?;
+            show_number(alloc, out, low)
+        }
+        Expression::Not { at, .. } => show_operator(alloc, out, "not", *at),
+        Expression::Binary { at, operator, .. } => {
+            show_operator(alloc, out, word_of(*operator), *at)
+        }
+        Expression::Mux { at, .. } => show_operator(alloc, out, "mux", *at),
+    }
+}
+
+/// Adds an operator and its type.
+fn show_typed(
+    alloc: Global,
+    out: &mut String,
+    word: &str,
+    at: usize,
+    ty: &EsiType,
+) -> Result<(), NoMemory> {
+    show_operator(alloc, out, word, at)?;
+    show_type(alloc, out, ty)
+}
+
+/// Adds suffixes.
+fn show_suffixes(alloc: Global, out: &mut String, suffixes: &[Suffix]) -> Result<(), NoMemory> {
+    for suffix in suffixes {
+        show_suffix(alloc, out, suffix)?;
+    }
+    Ok(())
+}
+
 /// Adds an expression: its operator with the offset of its first octet, and its parts, as
 /// `(add@0 a@4 b@7)`; a type as its width.
 fn show(alloc: Global, out: &mut String, expression: &Expression) -> Result<(), NoMemory> {
+    show_operator_of(alloc, out, expression)?;
     match expression {
         Expression::Variable(name) => return show_name(alloc, out, name),
         Expression::Part { of, suffixes } => {
             out.push_str("(part ")?;
             show(alloc, out, of.get())?;
-            for suffix in suffixes.as_slice() {
-                show_suffix(alloc, out, suffix)?;
-            }
+            show_suffixes(alloc, out, suffixes.as_slice())?;
         }
-        Expression::Literal { at, ty, value } => {
-            show_operator(alloc, out, "lit", *at)?;
-            show_type(alloc, out, ty)?;
-            show_number(alloc, out, value)?;
-        }
-        Expression::Make { at, ty, parts } => {
-            show_operator(alloc, out, "make", *at)?;
-            show_type(alloc, out, ty)?;
+        Expression::Literal { .. } => {}
+        Expression::Make { parts, .. } => {
             for part in parts.as_slice() {
                 out.push_str(" ")?;
                 show(alloc, out, part)?;
             }
         }
-        Expression::Cast { at, ty, of } => {
-            show_operator(alloc, out, "cast", *at)?;
-            show_type(alloc, out, ty)?;
+        Expression::Cast { of, .. }
+        | Expression::Zext { of, .. }
+        | Expression::Slice { of, .. }
+        | Expression::Not { of, .. } => {
             out.push_str(" ")?;
             show(alloc, out, of.get())?;
         }
-        Expression::Zext { at, width, of } => {
-            show_operator(alloc, out, "zext", *at)?;
-            show_number(alloc, out, width)?;
-            out.push_str(" ")?;
-            show(alloc, out, of.get())?;
-        }
-        Expression::Slice { at, high, low, of } => {
-            show_operator(alloc, out, "slice", *at)?;
-            show_number(alloc, out, high)?;
-            show_number(alloc, out, low)?;
-            out.push_str(" ")?;
-            show(alloc, out, of.get())?;
-        }
-        Expression::Not { at, of } => {
-            show_operator(alloc, out, "not", *at)?;
-            out.push_str(" ")?;
-            show(alloc, out, of.get())?;
-        }
-        Expression::Binary {
-            at,
-            operator,
-            left,
-            right,
-        } => {
-            show_operator(alloc, out, word_of(*operator), *at)?;
+        Expression::Binary { left, right, .. } => {
             out.push_str(" ")?;
             show(alloc, out, left.get())?;
             out.push_str(" ")?;
             show(alloc, out, right.get())?;
         }
         Expression::Mux {
-            at,
             condition,
             when_one,
             when_zero,
+            ..
         } => {
-            show_operator(alloc, out, "mux", *at)?;
             out.push_str(" ")?;
             show(alloc, out, condition.get())?;
             out.push_str(" ")?;

@@ -10,7 +10,6 @@ mod escapes;
 mod expressions;
 mod leaves;
 mod lines;
-mod numbers;
 mod random_designs;
 mod random_text;
 mod random_values;

@@ -1,8 +1,8 @@
 //! Random designs, printed and read again.
 
 use crate::designs::canonical;
-use crate::numbers::Numbers;
 use crate::random_text::{design_text, with_other_gaps};
+use case_words::Numbers;
 use esi_base::NoMemory;
 use std::alloc::Global;
 

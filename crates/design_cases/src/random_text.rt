@@ -1,6 +1,6 @@
 //! Random canonical texts of types, expressions and designs, and texts of the same tokens with other gaps.
 
-use crate::numbers::Numbers;
+use case_words::Numbers;
 use esi_base::NoMemory;
 use std::alloc::Global;
 
@@ -35,106 +35,118 @@ fn leaf_type(alloc: Global, numbers: &mut Numbers, most: u32) -> Result<String, 
     }
 }
 
+/// Expressions round another one, `@`; `#` is a number and `$` a type.
+const EXPRESSIONS: [&str; 12] = [
+    "not(@)",
+    "add(@, w.f[#])",
+    "cat(lit(ui9, #), @)",
+    "mux(c, @, mux)",
+    "slice(#, 0, @)",
+    "zext(#, @)",
+    "cast($, @)",
+    "make($, @, v, not(x))",
+    "eq(@, @)",
+    "xor(lt(a, b), @)",
+    "or(sub, @)",
+    "and(@, sub(x, y)[#].g)",
+];
+
+/// Statements round an expression.
+const STATEMENTS: [&str; 11] = [
+    "request s.p as a[#];\n",
+    "inst a[#] = m(p: r, add: a.b, q: a[1].c);\n",
+    "inst a = m();\n",
+    "chan a, b = fork c[#].d;\n",
+    "chan a = buffer # b.c;\n",
+    "chan a = fifo # b;\n",
+    "chan a = join b, c.d;\n",
+    "chan a = scan b(s: $ = #, v) @;\n",
+    "drive a.b = c[#].d;\n",
+    "chan a = stage mux;\n",
+    "chan a = map b(v) @;\n",
+];
+
+/// Declarations round statements.
+const DECLARATIONS: [&str; 4] = [
+    "bundle b {\nx: to_hw $;\nlit: from_hw $;\n}\n",
+    "service s {\nport p: b;\nport mux: cat;\n}\n",
+    "module m(in a: $, out b: $) {\n@}\n",
+    "module m() {\n@}\n",
+];
+
+/// One of some texts round another one.
+fn one_round(
+    alloc: Global,
+    texts: &[&'static str],
+    inner: &str,
+    numbers: &mut Numbers,
+) -> Result<String, NoMemory> {
+    let at = numbers.next() as usize % texts.len().max(1);
+    let text = texts.get(at).copied().unwrap_or("");
+    let mut out = String::new(alloc);
+    for octet in text.bytes() {
+        add_octet(alloc, &mut out, octet, inner, numbers)?;
+    }
+    Ok(out)
+}
+
+/// Adds what an octet of such a text stands for.
+fn add_octet(
+    alloc: Global,
+    out: &mut String,
+    octet: u8,
+    inner: &str,
+    numbers: &mut Numbers,
+) -> Result<(), NoMemory> {
+    match octet {
+        b'@' => out.push_str(inner)?,
+        b'#' => {
+            let number = numbers.next();
+            out.push_str(format!(in alloc; "{number}")?.as_str())?;
+        }
+        b'$' => out.push_str(type_text(alloc, numbers)?.as_str())?,
+        other => out.push(char::from(other))?,
+    }
+    Ok(())
+}
+
 /// A canonical text of an expression.
 fn expression_text(alloc: Global, numbers: &mut Numbers) -> Result<String, NoMemory> {
     let mut text = String::from_str(alloc, "v")?;
     for _ in 0..numbers.below(12) {
-        text = larger_expression(alloc, text.as_str(), numbers)?;
+        text = one_round(alloc, &EXPRESSIONS, text.as_str(), numbers)?;
     }
     Ok(text)
 }
 
-/// An expression round another one.
-fn larger_expression(
-    alloc: Global,
-    inner: &str,
-    numbers: &mut Numbers,
-) -> Result<String, NoMemory> {
-    let number = numbers.below(300);
-    match numbers.below(12) {
-        0 => Ok(format!(in alloc; "not({inner})")?),
-        1 => Ok(format!(in alloc; "add({inner}, w.f[{number}])")?),
-        2 => Ok(format!(in alloc; "cat(lit(ui9, {number}), {inner})")?),
-        3 => Ok(format!(in alloc; "mux(c, {inner}, mux)")?),
-        4 => Ok(format!(in alloc; "slice({number}, 0, {inner})")?),
-        5 => Ok(format!(in alloc; "zext({number}, {inner})")?),
-        6 => {
-            let ty = type_text(alloc, numbers)?;
-            Ok(format!(in alloc; "cast({ty}, {inner})")?)
-        }
-        7 => {
-            let ty = type_text(alloc, numbers)?;
-            Ok(format!(in alloc; "make({ty}, {inner}, v, not(x))")?)
-        }
-        8 => Ok(format!(in alloc; "eq({inner}, {inner})")?),
-        9 => Ok(format!(in alloc; "xor(lt(a, b), {inner})")?),
-        10 => Ok(format!(in alloc; "or(sub, {inner})")?),
-        _ => Ok(format!(in alloc; "and({inner}, sub(x, y)[{number}].g)")?),
-    }
-}
-
-/// A canonical text of a statement, with the end of its line.
-fn statement_text(alloc: Global, numbers: &mut Numbers) -> Result<String, NoMemory> {
-    let number = numbers.next();
-    match numbers.below(11) {
-        0 => Ok(format!(in alloc; "request s.p as a[{number}];\n")?),
-        1 => Ok(format!(in alloc; "inst a[{number}] = m(p: r, add: a.b, q: a[1].c);\n")?),
-        2 => Ok(format!(in alloc; "inst a = m();\n")?),
-        3 => Ok(format!(in alloc; "chan a, b = fork c[{number}].d;\n")?),
-        4 => Ok(format!(in alloc; "chan a = buffer {number} b.c;\n")?),
-        5 => Ok(format!(in alloc; "chan a = fifo {number} b;\n")?),
-        6 => Ok(format!(in alloc; "chan a = join b, c.d;\n")?),
-        7 => {
-            let ty = type_text(alloc, numbers)?;
-            let body = expression_text(alloc, numbers)?;
-            Ok(format!(in alloc; "chan a = scan b(s: {ty} = {number}, v) {body};\n")?)
-        }
-        8 => Ok(format!(in alloc; "drive a.b = c[{number}].d;\n")?),
-        9 => Ok(format!(in alloc; "chan a = stage mux;\n")?),
-        _ => {
-            let body = expression_text(alloc, numbers)?;
-            Ok(format!(in alloc; "chan a = map b(v) {body};\n")?)
-        }
-    }
-}
-
-/// Statements.
+/// Statements, each with the end of its line.
 fn body_text(alloc: Global, numbers: &mut Numbers) -> Result<String, NoMemory> {
     let mut text = String::new(alloc);
     for _ in 0..numbers.below(5) {
-        text.push_str(statement_text(alloc, numbers)?.as_str())?;
+        let body = expression_text(alloc, numbers)?;
+        let statement = one_round(alloc, &STATEMENTS, body.as_str(), numbers)?;
+        text.push_str(statement.as_str())?;
     }
     Ok(text)
 }
 
-/// A canonical text of a declaration.
-fn declaration_text(alloc: Global, numbers: &mut Numbers) -> Result<String, NoMemory> {
+/// A canonical text of a pipe.
+fn pipe_text(alloc: Global, numbers: &mut Numbers) -> Result<String, NoMemory> {
     let ty = type_text(alloc, numbers)?;
-    let other = type_text(alloc, numbers)?;
-    match numbers.below(4) {
-        0 => Ok(format!(in alloc; "bundle b {{\nx: to_hw {ty};\nlit: from_hw {other};\n}}\n")?),
-        1 => Ok(format!(in alloc; "service s {{\nport p: b;\nport mux: cat;\n}}\n")?),
-        2 => {
-            let body = body_text(alloc, numbers)?;
-            Ok(format!(in alloc; "module m(in a: {ty}, out b: {other}) {{\n{body}}}\n")?)
-        }
-        _ => {
-            let body = body_text(alloc, numbers)?;
-            Ok(format!(in alloc; "module m() {{\n{body}}}\n")?)
-        }
-    }
+    let stages = numbers.next();
+    Ok(format!(in alloc; "esi 1;\npipe {ty} stages {stages};\n")?)
 }
 
 /// A canonical text of a design.
 pub fn design_text(alloc: Global, numbers: &mut Numbers) -> Result<String, NoMemory> {
     if numbers.below(8) == 0 {
-        let ty = type_text(alloc, numbers)?;
-        let stages = numbers.next();
-        return Ok(format!(in alloc; "esi 1;\npipe {ty} stages {stages};\n")?);
+        return pipe_text(alloc, numbers);
     }
     let mut text = String::from_str(alloc, "esi 1;\n")?;
     for _ in 0..numbers.below(4) {
-        text.push_str(declaration_text(alloc, numbers)?.as_str())?;
+        let body = body_text(alloc, numbers)?;
+        let declaration = one_round(alloc, &DECLARATIONS, body.as_str(), numbers)?;
+        text.push_str(declaration.as_str())?;
     }
     text.push_str("top t {\n")?;
     if numbers.coin() {

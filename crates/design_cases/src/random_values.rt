@@ -1,11 +1,11 @@
 //! Random values of random types, unpacked and packed again.
 ghost use Rattle.channel_types.specs.Types.{IsGoodType};
 
-use crate::numbers::Numbers;
 use crate::random_text::type_text;
 use crate::types::type_of;
 use crate::values::octets_of_word;
 use bit_packing::{Unpacked, fits, from_octets, is_packing, pack, unpack};
+use case_words::Numbers;
 use esi_base::{NoMemory, Word};
 use esi_types::EsiType;
 use std::alloc::Global;

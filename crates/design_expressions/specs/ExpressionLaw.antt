@@ -1,5 +1,5 @@
 -- The readers of expressions read exactly the grammar.
-use Rattle.std.proofs.Common.{◌≡◌, ◌==◌, ℕ, zero, suc, Bool, true, false, if◌then◌else◌, List, [], ◌∷◌, ◌++◌, Ok, Err, refl, sym, ap, ◌∙◌}
+use Rattle.std.proofs.Common.{◌≡◌, ◌==◌, ℕ, zero, suc, Bool, true, false, if◌then◌else◌, [], ◌∷◌, ◌++◌, Err, refl, sym, ap, ◌∙◌}
 use Rattle.ll1_grammar.specs.Lexemes.{Lexemes, first_place}
 use Rattle.ll1_grammar.specs.Rule.{Kinds, Rule, Tree, ◌⟫◌}
 use Rattle.ll1_grammar.specs.Rule.Rule.{one, alt, star}
@@ -7,20 +7,21 @@ use Rattle.ll1_grammar.specs.Rule.Tree.{node}
 use Rattle.ll1_grammar.specs.Kinds.{among, first, second, first_kind, first_token, follow_set, behind}
 use Rattle.ll1_grammar.specs.declared.refusal.TokenRefusal.{TokenRefusal}
 use Rattle.ll1_grammar.specs.Trees.{Checks}
-use Rattle.ll1_grammar.specs.Parse.{Answer, Parser, parse}
+use Rattle.ll1_grammar.specs.Parse.{Parser, parse}
 use Rattle.ll1_grammar.specs.Parse.ParseStop.{unwanted, broken}
 use Rattle.ll1_grammar.specs.WithoutLimits.{no_check}
 use Rattle.ll1_grammar.specs.Nesting.{nesting}
-use Rattle.ll1_grammar.specs.WholeTexts.{Readable, begins_alike}
+use Rattle.ll1_grammar.specs.WholeTexts.{Readable}
 use Rattle.ll1_grammar.specs.Readers.{Reader, refused}
-use Rattle.ll1_grammar.specs.Bridge.{Implements, AreReported, reported_so, read_of, read_of_wrap, leaf_by, items, through, through_items, take_any_implements, empty_implements, map_implements, seq_implements, any_implements, alt_implements, star_implements}
+use Rattle.ll1_grammar.specs.Bridge.{Implements, AreReported, reported_so, read_of, read_of_wrap, leaf_by, items, take_any_implements, empty_implements, map_implements, seq_implements, any_implements, alt_implements}
 use Rattle.design_lex.specs.declared.token.Token.{Token}
 use Rattle.design_grammar.specs.declared.kind.Kind.{Kind}
 use Rattle.design_grammar.specs.declared.kind.Kind.TheVariants as K
 use Rattle.design_grammar.specs.Kinds.{code, names, binaries, unwanted as unwanted_number, word_kind}
 use Rattle.design_grammar.specs.Grammar.{Named, expect}
 use Rattle.design_grammar.specs.Rules.{designs, token, operands, in_parentheses as in_parentheses_rule, a_type, an_expression, a_name as name_rule, a_number as number_rule, base_rule, suffix_rule, expression_rule, zext_rule, slice_rule, not_rule, binary_rule, mux_rule}
-use Rattle.design_grammar.specs.Implementing.{any_same, reported_alike, countless, behind_countless, expect_implements, last_implements, name_implements, number_implements, operator_implements}
+use Rattle.design_grammar.specs.Implementing.{any_same, reported_alike, countless, behind_countless, expect_implements, then_implements, last_implements, name_implements, number_implements, operator_implements}
+use Rattle.design_grammar.specs.Lists.{after_comma, items_implements}
 use Rattle.design_grammar.specs.declared.rule.GrammarRule.TheVariants.{TooManyOpenExpressions}
 use Rattle.design_grammar.specs.RuleNumbers.{rule_number}
 use Rattle.channel_types.specs.declared.limits.TheConstants.{OPEN_TYPES}
@@ -35,7 +36,7 @@ use Rattle.design_tree.specs.declared.expression.Expression.TheVariants as V
 use Rattle.design_expressions.specs.declared.shapes.Shape.{Shape}
 use Rattle.design_expressions.specs.declared.shapes.Shape.TheVariants.{Literal, Make, Cast, Zext, Slice, Not, Two, Mux}
 use Rattle.design_expressions.specs.ExpressionValues.{name_from, number_from, variable, binary_word_in, name_in, number_at, word_at, suffix_in, with_suffixes, literal_in, make_in, cast_in, zext_in, slice_in, not_in, two_in, mux_in, inside_in, application_in, operation_in, binary_in, of_bits_in, base_in, level_in, expression_by, expression_of}
-use Rattle.design_expressions.specs.ExpressionReading.{next_name, next_number, plain, binary_word, field, element, suffix_starts, suffix, one_more_suffix, suffixes, in_parentheses, literal, one_more, parts, make, cast, zext, slice, not, pair, two, mux, inside, application, operation, binary, of_bits, base, level, too_deep, expression_at}
+use Rattle.design_expressions.specs.ExpressionReading.{next_name, next_number, plain, binary_word, field, element, suffix_starts, suffix, suffixes, in_parentheses, literal, parts, make, cast, zext, slice, not, pair, two, mux, inside, application, operation, binary, of_bits, base, level, too_deep, expression_at}
 use Rattle.design_expressions.specs.ExpressionTrees.{is_expression, unchecked, type_env, TypeTree, BrokenType, expression_env, ExpressionTree, ExpressionBreak, expression_readable}
 
 -- where no expression begins
@@ -47,14 +48,6 @@ module _ (check : Checks Token) (env : ℕ → Parser Token) where
   -- a do-block reads as the rule's reader does, and gives the value of the tree
   abbrev Reading : {A : Type 0} → Reader Token A → (Tree Token → A) → Rule → Kinds → Type 0
   Reading read value r also = Implements designs check env read value r also
-
-  -- the value may be replaced by an equal one
-  pub implements_as : {A : Type 0} {read : Reader Token A} {f h : Tree Token → A} {r : Rule} {also : Kinds} → Reading read f r also → ((t : Tree Token) → f t ≡ h t) → Reading read h r also
-  implements_as {A} {read} {f} {h} {r} {also} e same = record { at = λ ts. e.at ts ∙ of (parse designs check env r also ts) }
-    where
-      of : (x : Answer Token) → read_of designs f x ≡ read_of designs h x
-      of (Ok x) = ap (λ v. Ok (v, x.1)) (same x.0)
-      of (Err halt) = refl
 
   pub next_name_implements : Reading next_name name_in name_rule []
   unfolding next_name
@@ -83,13 +76,9 @@ module _ (check : Checks Token) (env : ℕ → Parser Token) where
       seq_implements designs check env _ _ (expect_implements check env K.OpenBracket (code K.Dot ∷ []) refl refl refl) (λ t.
       seq_implements designs check env _ _ next_number_implements (λ u. last_implements check env K.CloseBracket [] (X.Element (number_at u)) refl refl refl))
 
-  suffix_implements : Reading suffix suffix_in suffix_rule []
+  pub suffix_implements : Reading suffix suffix_in suffix_rule []
   unfolding suffix
   suffix_implements = alt_implements designs check env (code K.Dot) refl field_implements element_implements
-
-  pub one_more_suffix_implements : (front : List Suffix) → Reading (one_more_suffix front) (λ t. front ++ suffix_in t ∷ []) suffix_rule []
-  unfolding one_more_suffix
-  one_more_suffix_implements front = map_implements designs check env (λ s. front ++ s ∷ []) suffix_implements
 
   in_parentheses_implements : {read : Reader Token Expression} {f : Tree Token → Expression} (r : Rule) → countless (follow_set designs r) ≡ true → Reading read f r []
       → Reading (in_parentheses read) (λ t. f (first (second t))) (in_parentheses_rule r) []
@@ -111,9 +100,8 @@ module _ (check : Checks Token) (env : ℕ → Parser Token) where
     comma_implements : (t : Tree Token) → Reading (expect K.Comma) (leaf_by designs (λ x. x.0.1)) (token K.Comma) (behind designs an_expression t [])
     comma_implements t = expect_implements check env K.Comma _ (behind_countless an_expression t [] refl refl) refl refl
 
-    pub one_more_implements : (front : List Expression) → Reading (one_more inner front) (λ w. front ++ value (second w) ∷ []) (token K.Comma ⟫ an_expression) []
-    unfolding one_more
-    one_more_implements front = seq_implements designs check env _ _ (expect_implements check env K.Comma [] refl refl refl) (λ t. map_implements designs check env (λ part. front ++ part ∷ []) calls)
+    pub part_implements : Reading (after_comma inner) (λ w. value (second w)) (token K.Comma ⟫ an_expression) []
+    part_implements = then_implements check env K.Comma [] refl refl refl calls
 
     cast_implements : (at : ℕ) → Reading (cast inner at) (cast_in types value at) (a_type ⟫ token K.Comma ⟫ an_expression) []
     unfolding cast
@@ -170,17 +158,13 @@ module _ (check : Checks Token) (env : ℕ → Parser Token) where
         application_implements (Two word.0) word.1 (an_expression ⟫ token K.Comma ⟫ an_expression) refl (two_implements word.0 word.1.1))
 
     module _ (called : ℕ → Tree Token → Type 0) (bad : ℕ → TokenRefusal → ℕ → Tree Token → Type 0) (readable : Readable designs check called bad env) where
-      parts_implements : (also : Kinds) → Reading (parts inner) (λ t. through (λ front w. front ++ value (second w) ∷ []) [] t) (star (token K.Comma ⟫ an_expression)) also
+      parts_implements : (also : Kinds) → Reading (parts inner) (items (λ w. value (second w))) (star (token K.Comma ⟫ an_expression)) also
       unfolding word_kind
-      parts_implements also =
-          star_implements designs check env (code K.Comma ∷ []) [] also refl (begins_alike designs check called bad env readable (token K.Comma ⟫ an_expression) refl) one_more_implements
+      parts_implements also = items_implements check env called bad readable (token K.Comma ⟫ an_expression) refl part_implements (code K.Comma ∷ []) refl [] also
 
       make_implements : (at : ℕ) → Reading (make inner at) (make_in types value at) (a_type ⟫ star (token K.Comma ⟫ an_expression)) []
       unfolding make
-      make_implements at =
-          implements_as (seq_implements designs check env _ (λ t. V.Make at (types (first t)).0 (through (λ front w. front ++ value (second w) ∷ []) [] (second t))) types_implements
-          (λ t. map_implements designs check env (λ all. V.Make at (types t).0 all) (parts_implements _)))
-          (λ t. ap (λ all. V.Make at (types (first t)).0 all) (through_items (λ w. value (second w)) [] (second t)))
+      make_implements at = seq_implements designs check env _ _ types_implements (λ t. map_implements designs check env (λ all. V.Make at (types t).0 all) (parts_implements _))
 
       of_bits_implements : Reading (of_bits inner) (of_bits_in types value) (alt zext_rule (alt slice_rule (alt not_rule (alt binary_rule mux_rule)))) (code K.Cast ∷ code K.Make ∷ code K.Lit ∷ code K.Name ∷ [])
       unfolding of_bits inside unwanted_number
@@ -200,9 +184,7 @@ module _ (check : Checks Token) (env : ℕ → Parser Token) where
 
       suffixes_implements : (also : Kinds) → Reading suffixes (items suffix_in) (star suffix_rule) also
       unfolding word_kind
-      suffixes_implements also =
-          implements_as (star_implements designs check env suffix_starts [] also refl (begins_alike designs check called bad env readable suffix_rule refl) one_more_suffix_implements)
-          (λ t. through_items suffix_in [] t)
+      suffixes_implements also = items_implements check env called bad readable suffix_rule refl suffix_implements suffix_starts refl [] also
 
       level_implements : Reading (level inner) (level_in types value) expression_rule []
       unfolding level

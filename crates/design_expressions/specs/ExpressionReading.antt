@@ -1,9 +1,9 @@
 -- The readers of expressions, as functions of the lexemes that are left.
-use Rattle.std.specs.Prelude.{ℕ, zero, suc, List, [], ◌∷◌, ◌++◌, Err, if◌then◌else◌}
+use Rattle.std.specs.Prelude.{ℕ, zero, suc, List, [], ◌∷◌, Err, if◌then◌else◌}
 use Rattle.ll1_grammar.specs.Rule.{Kinds}
 use Rattle.ll1_grammar.specs.Lexemes.{first_place}
 use Rattle.ll1_grammar.specs.Kinds.{among, first_kind}
-use Rattle.ll1_grammar.specs.Readers.{Reader, refuse, pure, ◌>>=◌, ◌>>◌, take_any_token, on, on_any, all_onto}
+use Rattle.ll1_grammar.specs.Readers.{Reader, refuse, pure, ◌>>=◌, ◌>>◌, take_any_token, on, on_any}
 use Rattle.design_lex.specs.declared.token.Token.{Token}
 use Rattle.design_grammar.specs.declared.kind.Kind.{Kind}
 use Rattle.design_grammar.specs.declared.kind.Kind.TheVariants as K
@@ -12,6 +12,7 @@ use Rattle.design_grammar.specs.Grammar.{token_grammar, Named, expect, name, ope
 use Rattle.design_grammar.specs.declared.rule.GrammarRule.TheVariants.{TooManyOpenExpressions}
 use Rattle.design_grammar.specs.RuleNumbers.{rule_number}
 use Rattle.design_grammar.specs.Rules.{designs}
+use Rattle.design_grammar.specs.Lists.{items_onto, after_comma}
 use Rattle.channel_types.specs.declared.limits.TheConstants.{OPEN_TYPES}
 use Rattle.design_types.specs.TypeReading.{type_at}
 use Rattle.design_tree.specs.declared.leaves.Name.{Name}
@@ -60,13 +61,9 @@ suffix_starts = code K.Dot ∷ code K.OpenBracket ∷ []
 unfoldable pub suffix : Reader Token Suffix
 suffix = on designs (code K.Dot) field element
 
--- one more suffix
-unfoldable pub one_more_suffix : List Suffix → Reader Token (List Suffix)
-one_more_suffix front = suffix >>= λ s. pure (front ++ s ∷ [])
-
 -- all suffixes
 abbrev pub suffixes : Reader Token (List Suffix)
-suffixes = all_onto designs suffix_starts one_more_suffix []
+suffixes = items_onto suffix_starts suffix []
 
 -- ---- operators
 
@@ -88,12 +85,9 @@ literal at = do
 
 -- `inner` reads the expressions that stand in an expression
 module _ (inner : Reader Token Expression) where
-  -- one more part, after a comma
-  unfoldable pub one_more : List Expression → Reader Token (List Expression)
-  one_more front = expect K.Comma >> (inner >>= λ part. pure (front ++ part ∷ []))
-
+  -- all parts, each after a comma
   abbrev pub parts : Reader Token (List Expression)
-  parts = all_onto designs (code K.Comma ∷ []) one_more []
+  parts = items_onto (code K.Comma ∷ []) (after_comma inner) []
 
   unfoldable pub make : ℕ → Reader Token Expression
   make at = do

@@ -1,14 +1,14 @@
 -- The steps of the readers, as code makes them: which way the next token's kind leads, and the loops over suffixes and over
 -- the parts of a value that is made.
-use Rattle.std.proofs.Common.{◌≡◌, ℕ, zero, ◌-◌, ◌<◌, ◌==◌, true, false, List, [], ◌∷◌, ◌++◌, length, suc, Option, Some, None, Result, Ok, Err, refl, sym, ap, ◌∙◌, arith, subst}
+use Rattle.std.proofs.Common.{◌≡◌, ℕ, zero, ◌-◌, ◌<◌, ◌==◌, true, false, List, [], ◌∷◌, length, suc, Option, Result, Ok, Err, refl, sym, ap, ◌∙◌, arith, subst}
 use Rattle.ll1_grammar.specs.Rule.{◌⟫◌}
-use Rattle.ll1_grammar.specs.Kinds.{among, second, first_token, first_lexeme}
+use Rattle.ll1_grammar.specs.Kinds.{among, first_token, first_lexeme}
 use Rattle.ll1_grammar.specs.declared.refusal.TokenRefusal.{TokenRefusal}
 use Rattle.ll1_grammar.specs.Among.{by_true, by_false}
 use Rattle.ll1_grammar.specs.Readers.{Read, Reader, refused}
-use Rattle.ll1_grammar.specs.Lexemes.{Lexemes, first_place}
+use Rattle.ll1_grammar.specs.Lexemes.{Lexemes}
 use Rattle.ll1_grammar.specs.WithoutLimits.{no_check}
-use Rattle.ll1_grammar.specs.WholeTexts.{front_shorter, ok_value}
+use Rattle.ll1_grammar.specs.WholeTexts.{ok_value}
 use Rattle.design_lex.specs.Tokens as lex
 use Rattle.design_lex.specs.declared.token.Token.{Token}
 use Rattle.design_grammar.specs.declared.kind.Kind.{Kind}
@@ -19,35 +19,35 @@ use Rattle.esi_base.specs.Answers.{StopsAs}
 use Rattle.esi_base.specs.declared.stop.Stop.{Stop}
 use Rattle.esi_base.specs.declared.stop.Stop.TheVariants.{Refused, NoMemory}
 use Rattle.design_grammar.specs.Kinds.{code, kind_of, names, binaries, word_kind}
-use Rattle.design_grammar.specs.Rules.{designs, token, an_expression, suffix_rule}
+use Rattle.design_grammar.specs.Rules.{token, an_expression, suffix_rule}
+use Rattle.design_grammar.specs.Lists.{one_more, after_comma, Shortens, one_more_shorter, item_shorter}
 use Rattle.design_grammar.specs.declared.rule.GrammarRule.TheVariants.{TooManyOpenExpressions}
 use Rattle.design_grammar.specs.RuleNumbers.{rule_number}
 use Rattle.channel_types.specs.declared.limits.TheConstants.{OPEN_TYPES}
 use Rattle.channel_types.specs.TypeGrammar.{type_of}
-use Rattle.design_tree.specs.declared.expression.Suffix.{Suffix}
 use Rattle.design_tree.specs.declared.expression.Expression.{Expression}
 use Rattle.design_expressions.specs.declared.shapes.Shape.{Shape}
 use Rattle.design_expressions.specs.declared.shapes.Shape.TheVariants.{Mux}
-use Rattle.design_expressions.specs.NextToken.{IsOther, is_other, comes, comes_not}
-use Rattle.design_expressions.specs.ExpressionValues.{variable, binary_of, binary_word_in, suffix_in, expression_of}
-use Rattle.design_expressions.specs.ExpressionReading.{binary_word, one_more, element, suffix, one_more_suffix, suffix_starts, application, operation, binary, of_bits, base, level, too_deep, expression_at}
+use Rattle.design_grammar.specs.NextToken.{IsOther, is_other, comes, comes_not}
+use Rattle.design_expressions.specs.ExpressionValues.{variable, binary_of, binary_word_in, expression_of}
+use Rattle.design_expressions.specs.ExpressionReading.{binary_word, element, suffix, application, operation, binary, of_bits, base, level, too_deep, expression_at}
 use Rattle.design_expressions.specs.ExpressionTrees.{ExpressionTree, ExpressionBreak, expression_env, expression_readable}
-use Rattle.design_expressions.specs.ExpressionLaw.{one_more_suffix_implements, one_more_implements, expression_implements, type_within_implements}
+use Rattle.design_expressions.specs.ExpressionLaw.{suffix_implements, part_implements, expression_implements, type_within_implements}
 
--- one more part takes lexemes away
-pub one_more_shorter : (levels : ℕ) (front : List Expression) (ts : Lexemes Token) (u : List Expression) (us : Lexemes Token) → one_more (expression_at levels) front ts ≡ Ok (u, us) → length us < length ts
+-- a part after its comma takes lexemes away, and so does one more of them
+part_shorter : (levels : ℕ) → Shortens (after_comma (expression_at levels))
 unfolding word_kind
-one_more_shorter levels front ts u us e =
-    front_shorter designs no_check (ExpressionTree levels) (ExpressionBreak levels) (expression_env levels) (expression_readable levels no_check) (token K.Comma ⟫ an_expression) refl
-    (λ w. front ++ expression_of levels (second w) ∷ []) (one_more (expression_at levels) front)
-    (one_more_implements no_check (expression_env levels) (type_of OPEN_TYPES) (type_within_implements levels no_check) (expression_at levels) (expression_of levels) (expression_implements levels no_check) front) refl ts u us e
+part_shorter levels =
+    item_shorter no_check (expression_env levels) (ExpressionTree levels) (ExpressionBreak levels) (expression_readable levels no_check) (token K.Comma ⟫ an_expression) refl
+    (part_implements no_check (expression_env levels) (type_of OPEN_TYPES) (type_within_implements levels no_check) (expression_at levels) (expression_of levels) (expression_implements levels no_check)) refl
 
--- and so does one more suffix
-pub one_more_suffix_shorter : (front : List Suffix) (ts : Lexemes Token) (u : List Suffix) (us : Lexemes Token) → one_more_suffix front ts ≡ Ok (u, us) → length us < length ts
+pub one_more_part_shorter : (levels : ℕ) (front : List Expression) (ts : Lexemes Token) (u : List Expression) (us : Lexemes Token) → one_more (after_comma (expression_at levels)) front ts ≡ Ok (u, us) → length us < length ts
+one_more_part_shorter levels = one_more_shorter (after_comma (expression_at levels)) (part_shorter levels)
+
+-- and so does a suffix
+pub suffix_shorter : Shortens suffix
 unfolding word_kind
-one_more_suffix_shorter front ts u us e =
-    front_shorter designs no_check (ExpressionTree 0) (ExpressionBreak 0) (expression_env 0) (expression_readable 0 no_check) suffix_rule refl
-    (λ t. front ++ suffix_in t ∷ []) (one_more_suffix front) (one_more_suffix_implements no_check (expression_env 0) front) refl ts u us e
+suffix_shorter = item_shorter no_check (expression_env 0) (ExpressionTree 0) (ExpressionBreak 0) (expression_readable 0 no_check) suffix_rule refl (suffix_implements no_check (expression_env 0)) refl
 
 pub above_zero : (n : ℕ) → (n ≡ 0 → ⊥) → n ≡ suc (n - 1)
 above_zero zero h = absurd (h refl)

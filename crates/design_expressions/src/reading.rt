@@ -1,18 +1,19 @@
 //! The readers of expressions. Each reads from the next token on, and goes past what it read.
-ghost use Rattle.std.specs.Prelude.{◌≡◌, ◌-◌, [], ◌∷◌, IfOk, Err};
+ghost use Rattle.std.specs.Prelude.{◌-◌, Err};
 ghost use Rattle.esi_base.specs.Answers.{StopsAs, ReadsAs};
 ghost use Rattle.design_grammar.specs.Grammar.{AnswersAt, StandsAt};
+ghost use Rattle.design_grammar.specs.Lists.{one_more, after_comma};
 ghost use Rattle.design_tree.specs.declared.expression.Expression.{Expression};
 ghost use Rattle.design_expressions.specs.declared.limits.TheConstants.{OPEN_EXPRESSIONS};
 ghost use Rattle.design_expressions.specs.ExpressionReading as spec;
 
 use crate::limits::OPEN_EXPRESSIONS;
 use crate::shapes::Shape;
-use crate::suffixes::{suffixes, with_suffixes};
+use crate::suffixes::{Suffixes, with_suffixes};
 use crate::words::{binary_word, next_number, plain, variable};
 use design_grammar::kind::{is_binary, is_name};
 use design_grammar::reading::{expect, operator, refuse};
-use design_grammar::{GrammarRule, Kind, TokenRefusal, TokenStop, is_same, kind_of};
+use design_grammar::{GrammarRule, Kind, TokenRefusal, TokenStop, is_same, kind_of, next_items};
 use design_lex::{Cursor, Spelling};
 use design_tree::{Binary, Expression};
 use design_types::next_type;
@@ -49,14 +50,14 @@ fn literal(cursor: &mut Cursor<'_>, alloc: Global, at: usize) -> Result<Expressi
 
 /// One more part, after a comma.
 #[cycle(expression)]
-#[tactic(auto, unfolding(crate::specs::ExpressionReading::one_more))]
+#[tactic(auto, unfolding(design_grammar::specs::Lists::one_more))]
 fn one_more(
     cursor: &mut Cursor<'_>,
     alloc: Global,
     levels: u32,
     parts: &mut Items<Expression>,
 ) -> Result<(), TokenStop>
-    ensures reads { ReadsAs (λ _. parts.new) (spec.one_more (spec.expression_at levels) parts.old cursor.old) result cursor.new }
+    ensures reads { ReadsAs (λ _. parts.new) (one_more (after_comma (spec.expression_at levels)) parts.old cursor.old) result cursor.new }
     ensures stands { StandsAt result cursor.new }
 {
     expect(cursor, Kind::Comma)?;
@@ -389,7 +390,7 @@ fn level(cursor: &mut Cursor<'_>, alloc: Global, levels: u32) -> Result<Expressi
     ensures stands { StandsAt result cursor.new }
 {
     let found = base(cursor, alloc, levels)?;
-    let suffixes = suffixes(cursor, alloc)?;
+    let suffixes = next_items::<Suffixes>(cursor, alloc)?;
     Ok(with_suffixes(alloc, found, suffixes)?)
 }
 

@@ -1,15 +1,12 @@
 //! The readers of suffixes: fields of structs, and elements of arrays.
-ghost use Rattle.std.specs.Prelude.{◌≡◌, [], ◌∷◌, IfOk};
-ghost use Rattle.esi_base.specs.Answers.{ReadsAs};
-ghost use Rattle.ll1_grammar.specs.Kinds.{among};
+ghost use Rattle.std.specs.Prelude.{◌≡◌, IfOk};
 ghost use Rattle.design_grammar.specs.Grammar.{AnswersAt, StandsAt};
-ghost use Rattle.design_grammar.specs.Kinds as kinds;
 ghost use Rattle.design_expressions.specs.ExpressionValues as values;
 ghost use Rattle.design_expressions.specs.ExpressionReading as spec;
 
 use crate::words::{next_name, next_number};
 use design_grammar::reading::expect;
-use design_grammar::{Kind, TokenStop, is_same, kind_of};
+use design_grammar::{Kind, Listed, TokenStop, is_same, kind_of};
 use design_lex::Cursor;
 use design_tree::{Expression, Suffix};
 use esi_base::{List, NoMemory};
@@ -52,38 +49,30 @@ fn suffix(cursor: &mut Cursor<'_>, alloc: Global) -> Result<Suffix, TokenStop>
     }
 }
 
-/// One more suffix.
-#[tactic(auto, unfolding(crate::specs::ExpressionReading::one_more_suffix))]
-fn one_more_suffix(
-    cursor: &mut Cursor<'_>,
-    alloc: Global,
-    suffixes: &mut List<Suffix>,
-) -> Result<(), TokenStop>
-    ensures reads { ReadsAs (λ _. suffixes.new) (spec.one_more_suffix suffixes.old cursor.old) result cursor.new }
-    ensures stands { StandsAt result cursor.new }
-{
-    let suffix = suffix(cursor, alloc)?;
-    suffixes.add(suffix)?;
-    Ok(())
-}
+/// The list of the suffixes after an expression.
+pub struct Suffixes;
 
-/// Whether a suffix begins with a token of this kind.
-fn begins_suffix(kind: Kind) -> bool
-    ensures { result ≡ among spec.suffix_starts (kinds.code kind) }
-{
-    matches!(kind, Kind::Dot | Kind::OpenBracket)
-}
+impl Listed for Suffixes {
+    ghost use Rattle.std.specs.Prelude.{refl};
+    ghost use Rattle.design_expressions.specs.ExpressionSteps.{suffix_shorter};
 
-/// All suffixes.
-pub fn suffixes(cursor: &mut Cursor<'_>, alloc: Global) -> Result<List<Suffix>, TokenStop>
-    ensures reads { AnswersAt (spec.suffixes cursor.old) result cursor.new }
-    ensures stands { StandsAt result cursor.new }
-{
-    let mut suffixes = List::new(alloc);
-    while begins_suffix(kind_of(cursor.peek())) {
-        one_more_suffix(cursor, alloc, &mut suffixes)?;
+    type Item = Suffix;
+
+    ghost reader = { spec.suffix };
+
+    ghost starts = { spec.suffix_starts };
+
+    fn begins(kind: Kind) -> bool {
+        matches!(kind, Kind::Dot | Kind::OpenBracket)
     }
-    Ok(suffixes)
+
+    fn next(cursor: &mut Cursor<'_>, alloc: Global) -> Result<Suffix, TokenStop> {
+        suffix(cursor, alloc)
+    }
+
+    ghost shorter = { suffix_shorter };
+
+    ghost ends = { refl };
 }
 
 /// An expression and the suffixes after it.

@@ -1,16 +1,16 @@
 -- The readers of one token read what the rules of one token do, in every grammar's reader of designs; and the refusals that
 -- they tell are those by all the kinds that may stand there.
-use Rattle.std.proofs.Common.{◌≡◌, ◌==◌, ◌&&◌, ◌||◌, not, ℕ, Bool, true, false, if◌then◌else◌, [], ◌∷◌, ◌++◌, nat_lt, ⊎_elim, refl, sym, ap, ◌∙◌, arith}
+use Rattle.std.proofs.Common.{◌≡◌, ◌==◌, ◌&&◌, ◌||◌, not, ℕ, Bool, true, false, if◌then◌else◌, [], ◌∷◌, ◌++◌, nat_lt, ⊎_elim, refl, sym, ap, ◌∙◌, arith, Ok, Err}
 use Rattle.std.specs.List.{list_all}
 use Rattle.ll1_grammar.specs.Lexemes.{Lexeme, Lexemes}
 use Rattle.ll1_grammar.specs.Rule.{Kinds, Rule, Tree, ◌⟫◌}
 use Rattle.ll1_grammar.specs.Kinds.{among, second, follow_set, follow_of, behind, within, may_be_empty, is_bare}
 use Rattle.ll1_grammar.specs.Trees.{Checks}
-use Rattle.ll1_grammar.specs.Parse.{Parser}
+use Rattle.ll1_grammar.specs.Parse.{Answer, Parser, parse}
 use Rattle.ll1_grammar.specs.Among.{is_false, true_false, and_true, not_true, among_either, among_none, within_bound, when_in}
 use Rattle.ll1_grammar.specs.FollowSets.{bound}
 use Rattle.ll1_grammar.specs.Readers.{Reader, pure, ◌>>◌, take_token, take_any_token}
-use Rattle.ll1_grammar.specs.Bridge.{Implements, AreReported, reported_so, leaf_by, take_token_implements, take_any_implements, map_implements, seq_implements}
+use Rattle.ll1_grammar.specs.Bridge.{Implements, AreReported, read_of, reported_so, leaf_by, take_token_implements, take_any_implements, map_implements, seq_implements}
 use Rattle.design_lex.specs.declared.token.Token.{Token}
 use Rattle.design_lex.specs.declared.token.Token.TheVariants.{Word, TypeWord as WidthWord, Number, Sign, Faulty, End}
 use Rattle.design_grammar.specs.declared.rule.GrammarRule.TheVariants.{UnexpectedToken, ReservedWord}
@@ -30,6 +30,15 @@ took_same wanted k view ts = refl
 pub any_same : {A : Type 0} (wanted ks : Kinds) (view : Lexeme Token → A) (ts : Lexemes Token) → take_any_token token_grammar wanted ks view ts ≡ take_any_token designs wanted ks view ts
 unfolding take_any_token
 any_same wanted ks view ts = refl
+
+-- the value that a reader gives may be replaced by an equal one
+pub implements_as : (check : Checks Token) (env : ℕ → Parser Token) {A : Type 0} {read : Reader Token A} {f h : Tree Token → A} {r : Rule} {also : Kinds} → Implements designs check env read f r also
+    → ((t : Tree Token) → f t ≡ h t) → Implements designs check env read h r also
+implements_as check env {A} {read} {f} {h} {r} {also} e same = record { at = λ ts. e.at ts ∙ of (parse designs check env r also ts) }
+  where
+    of : (x : Answer Token) → read_of designs f x ≡ read_of designs h x
+    of (Ok x) = ap (λ v. Ok (v, x.1)) (same x.0)
+    of (Err stop) = refl
 
 -- ---- which refusals are reported
 

@@ -85,6 +85,15 @@ code Mux = 64
 unfoldable pub word_kind : List ℕ → Kind
 word_kind word = kind_of_word keywords word
 
+-- the word of a kind by a table: none of a kind that is not in it
+abbrev pub word_in : List (List ℕ × Kind) → ℕ → List ℕ
+word_in [] k = []
+word_in (entry ∷ others) k = if k == code entry.1 then entry.0 else word_in others k
+
+-- the word with which a keyword or an operator is written
+abbrev pub keyword : Kind → List ℕ
+keyword kind = word_in keywords (code kind)
+
 -- the kind of a sign
 abbrev pub sign_kind : ℕ → Kind
 sign_kind b = kind_of_sign signs b

@@ -5,6 +5,8 @@ pub mod Grammar
 pub mod Names
 pub mod TokenSteps
 pub mod Rules
+pub mod NextToken
 pub mod Decided
 pub mod Implementing
+pub mod Lists
 pub mod Leaves

@@ -1,6 +1,5 @@
 -- One token taken or refused, said of the token that a cursor shows.
-use Rattle.std.proofs.Common.{◌≡◌, ℕ, ◌<◌, ◌^◌, ◌==◌, Bool, true, false, List, [], ◌∷◌, Result, Ok, Err, refl, sym, ap, ◌∙◌, subst, arith, if◌then◌else◌, nat_lt}
-use Rattle.std.proofs.lemmas.Grind.{common_steps}
+use Rattle.std.proofs.Common.{◌≡◌, ℕ, ◌==◌, true, false, List, [], ◌∷◌, Ok, Err, refl, sym, ap, ◌∙◌, subst}
 use Rattle.ll1_grammar.specs.Rule.{Kinds}
 use Rattle.ll1_grammar.specs.Kinds.{among, first_token, first_lexeme}
 use Rattle.ll1_grammar.specs.Lexemes.{rest, first_place}
@@ -13,10 +12,8 @@ use Rattle.ll1_grammar.specs.Among.{by_true, by_false}
 use Rattle.design_lex.specs.Tokens.{Lexeme, others}
 use Rattle.design_lex.specs.Tokens as lex
 use Rattle.design_lex.specs.declared.token.Token.{Token}
-use Rattle.design_lex.specs.declared.token.Token.TheVariants.{Word, TypeWord as WidthWord, Number, Sign, Faulty, End}
-use Rattle.design_grammar.specs.declared.kind.Kind.TheVariants.{One, Small, Great}
-use Rattle.design_grammar.specs.Kinds.{code, counts}
-use Rattle.design_grammar.specs.Grammar.{kind_code, token_grammar, number_in, StandsAt}
+use Rattle.design_grammar.specs.declared.kind.Kind.TheVariants.{One}
+use Rattle.design_grammar.specs.Grammar.{kind_code, token_grammar}
 
 pub first_is : (ts : List Lexeme) → first_token token_grammar ts ≡ lex.first_token ts
 first_is [] = refl
@@ -60,25 +57,7 @@ pub first_place_is : (ts : List Lexeme) → first_place ts ≡ lex.first_begin t
 first_place_is [] = refl
 first_place_is (x ∷ ts) = refl
 
-pub stands_with : {A : Type 0} (wanted : Kinds) (ts us : List Lexeme) (result : Result A (Stop TokenRefusal)) (stop : Stop TokenRefusal) → result ≡ Err stop → stop ≡ Refused (refused token_grammar wanted ts) → us ≡ ts
-    → StandsAt result us
-stands_with wanted ts us result stop e d same = subst (λ z. StandsAt z us) (sym (e ∙ ap Err d)) (λ rule. first_place_is ts ∙ ap lex.first_begin (sym same))
-
--- a count is below 2^32
-pub count_small : (t : Token) → among counts (kind_code t) ≡ true → number_in t < 2 ^ 32
-count_small (Number n) e = of (n == 1) (nat_lt n (2 ^ 32)) refl refl e
-  where
-    of : (a b : Bool) → (n == 1) ≡ a → nat_lt n (2 ^ 32) ≡ b → among counts (code (if a then One else (if b then Small else Great))) ≡ true → n < 2 ^ 32
-    of true b p q h = grind arith
-    of false true p q h = grind (arith, common_steps)
-    of false false p q h = absurd (cc)
-count_small (Word w) e = omega arith
-count_small (WidthWord c w) e = omega arith
-count_small (Sign b) e = omega arith
-count_small (Faulty f) e = omega arith
-count_small End e = omega arith
-
--- the same, where what was read and what is left are reported apart
+-- a token that is taken, where what was read and what is left are reported apart
 pub took_gives : {A : Type 0} (wanted : Kinds) (k : ℕ) (view : Lexeme → A) (ts us : List Lexeme) (a : A) → (kind_code (lex.first_token ts) == k) ≡ true
     → a ≡ view (first_lexeme token_grammar ts) → us ≡ others ts → take_token token_grammar wanted k view ts ≡ Ok (a, us)
 took_gives wanted k view ts us a e f g = took_made wanted k view ts e ∙ (ap (λ z. Ok (z, others ts)) (sym f) ∙ ap (λ z. Ok (a, z)) (sym g))

@@ -3,7 +3,7 @@ ghost use Rattle.std.specs.Prelude.{◌≡◌, map};
 ghost use Rattle.design_grammar.specs.Keywords as tables;
 ghost use Rattle.design_grammar.specs.Kinds as spec;
 
-use crate::kind::Kind;
+use crate::kind::{Kind, is_same};
 
 /// The keywords, and behind them the operators of expressions, each with its kind.
 const KEYWORDS: [(&[u8], Kind); 46] = [
@@ -74,4 +74,24 @@ pub fn word_kind(word: &[u8]) -> Kind
     ensures { result ≡ spec.word_kind word.now }
 {
     kind_in(&KEYWORDS, word)
+}
+
+/// The word of a kind by a table; no octets for a kind that is not in it.
+fn word_in(mut table: &[(&'static [u8], Kind)], kind: Kind) -> &'static [u8]
+    ensures { result.now ≡ spec.word_in (map (λ k. (k.0.now, k.1)) table.entry.now) (spec.code kind) }
+{
+    while let [entry, others @ ..] = table {
+        if is_same(kind, entry.1) {
+            return entry.0;
+        }
+        table = others;
+    }
+    &[]
+}
+
+/// The word of a keyword or an operator, as it is written; no octets for any other kind.
+pub fn word_of(kind: Kind) -> &'static [u8]
+    ensures { result.now ≡ spec.keyword kind }
+{
+    word_in(&KEYWORDS, kind)
 }

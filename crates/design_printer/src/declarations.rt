@@ -8,6 +8,7 @@ use crate::leaves::{print_comma, print_name};
 use crate::printer::Printer;
 use crate::statements::print_statement;
 use crate::types::print_type;
+use design_grammar::Kind;
 use design_tree::{
     Bundle, Declaration, Member, Module, ModulePort, Service, ServicePort, Statement,
 };
@@ -28,7 +29,7 @@ fn print_member(printer: &mut Printer, member: &Member) -> Result<(), NoMemory>
 fn print_bundle(printer: &mut Printer, bundle: &Bundle) -> Result<(), NoMemory>
     ensures { OnOk result (printer.new ≡ with_tokens (bundle_tokens bundle.now) printer.old) }
 {
-    printer.word(b"bundle")?;
+    printer.keyword(Kind::Bundle)?;
     print_name(printer, &bundle.name)?;
     printer.sign(b'{')?;
     for member in bundle.members.as_slice() {
@@ -40,7 +41,7 @@ fn print_bundle(printer: &mut Printer, bundle: &Bundle) -> Result<(), NoMemory>
 fn print_service_port(printer: &mut Printer, port: &ServicePort) -> Result<(), NoMemory>
     ensures { OnOk result (printer.new ≡ with_tokens (service_port_tokens port.now) printer.old) }
 {
-    printer.word(b"port")?;
+    printer.keyword(Kind::Port)?;
     print_name(printer, &port.name)?;
     printer.sign(b':')?;
     print_name(printer, &port.bundle)?;
@@ -51,7 +52,7 @@ fn print_service_port(printer: &mut Printer, port: &ServicePort) -> Result<(), N
 fn print_service(printer: &mut Printer, service: &Service) -> Result<(), NoMemory>
     ensures { OnOk result (printer.new ≡ with_tokens (service_tokens service.now) printer.old) }
 {
-    printer.word(b"service")?;
+    printer.keyword(Kind::Service)?;
     print_name(printer, &service.name)?;
     printer.sign(b'{')?;
     for port in service.ports.as_slice() {
@@ -96,7 +97,7 @@ fn print_statements(printer: &mut Printer, statements: &[Statement]) -> Result<(
 fn print_module(printer: &mut Printer, definition: &Module) -> Result<(), NoMemory>
     ensures { OnOk result (printer.new ≡ with_tokens (module_tokens definition.now) printer.old) }
 {
-    printer.word(b"module")?;
+    printer.keyword(Kind::Module)?;
     print_name(printer, &definition.name)?;
     printer.sign(b'(')?;
     print_module_ports(printer, definition.ports.as_slice())?;

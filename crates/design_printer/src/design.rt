@@ -12,6 +12,7 @@ use crate::leaves::{print_name, print_number};
 use crate::printer::Printer;
 use crate::statements::print_statement;
 use crate::types::print_type;
+use design_grammar::Kind;
 use design_tree::{Declaration, DesignTree, Pipe, Top, TopItem};
 use esi_base::{NoMemory, Octets};
 use std::alloc::Global;
@@ -20,9 +21,9 @@ use std::alloc::Global;
 fn print_pipe(printer: &mut Printer, pipe: &Pipe) -> Result<(), NoMemory>
     ensures { OnOk result (printer.new ≡ with_tokens (pipe_tokens pipe.now) printer.old) }
 {
-    printer.word(b"pipe")?;
+    printer.keyword(Kind::Pipe)?;
     print_type(printer, &pipe.ty)?;
-    printer.word(b"stages")?;
+    printer.keyword(Kind::Stages)?;
     print_number(printer, &pipe.stages)?;
     printer.sign(b';')
 }
@@ -33,7 +34,7 @@ fn print_top_item(printer: &mut Printer, item: &TopItem) -> Result<(), NoMemory>
     match item {
         TopItem::Statement(statement) => print_statement(printer, statement)?,
         TopItem::Implement(service) => {
-            printer.word(b"implement")?;
+            printer.keyword(Kind::Implement)?;
             print_name(printer, service)?;
             printer.sign(b';')?;
         }
@@ -45,7 +46,7 @@ fn print_top_item(printer: &mut Printer, item: &TopItem) -> Result<(), NoMemory>
 fn print_top(printer: &mut Printer, top: &Top) -> Result<(), NoMemory>
     ensures { OnOk result (printer.new ≡ with_tokens (top_tokens top.now) printer.old) }
 {
-    printer.word(b"top")?;
+    printer.keyword(Kind::Top)?;
     print_name(printer, &top.name)?;
     printer.sign(b'{')?;
     for item in top.body.as_slice() {
@@ -89,7 +90,7 @@ pub fn print_tree(alloc: Global, tree: &DesignTree) -> Result<Octets, NoMemory>
     ensures again { IfOk result (λ text. All IsPrintable (tokens_of tree.now) → map token_in (tokens text 0) ≡ tokens_of tree.now) }
 {
     let mut printer = Printer::new(alloc);
-    printer.word(b"esi")?;
+    printer.keyword(Kind::Esi)?;
     printer.number(1)?;
     printer.sign(b';')?;
     print_after_version(&mut printer, tree)?;

@@ -8,6 +8,8 @@ ghost use Rattle.design_printer.specs.Printers.{with_tokens};
 use crate::leaves::{print_name, print_number};
 use crate::printer::Printer;
 use crate::types::print_type;
+use design_grammar::Kind;
+use design_grammar::words::word_of;
 use design_tree::{Expression, Suffix};
 use esi_base::NoMemory;
 
@@ -74,34 +76,34 @@ pub fn print_expression(printer: &mut Printer, expression: &Expression) -> Resul
             print_suffixes(printer, suffixes.as_slice())?;
         }
         Expression::Literal { ty, value, .. } => {
-            open(printer, b"lit")?;
+            open(printer, word_of(Kind::Lit))?;
             print_type(printer, ty)?;
             printer.sign(b',')?;
             print_number(printer, value)?;
             printer.sign(b')')?;
         }
         Expression::Make { ty, parts, .. } => {
-            open(printer, b"make")?;
+            open(printer, word_of(Kind::Make))?;
             print_type(printer, ty)?;
             print_others(printer, parts.as_slice())?;
             printer.sign(b')')?;
         }
         Expression::Cast { ty, of, .. } => {
-            open(printer, b"cast")?;
+            open(printer, word_of(Kind::Cast))?;
             print_type(printer, ty)?;
             printer.sign(b',')?;
             print_expression(printer, of.get())?;
             printer.sign(b')')?;
         }
         Expression::Zext { width, of, .. } => {
-            open(printer, b"zext")?;
+            open(printer, word_of(Kind::Zext))?;
             print_number(printer, width)?;
             printer.sign(b',')?;
             print_expression(printer, of.get())?;
             printer.sign(b')')?;
         }
         Expression::Slice { high, low, of, .. } => {
-            open(printer, b"slice")?;
+            open(printer, word_of(Kind::Slice))?;
             print_number(printer, high)?;
             printer.sign(b',')?;
             print_number(printer, low)?;
@@ -110,7 +112,7 @@ pub fn print_expression(printer: &mut Printer, expression: &Expression) -> Resul
             printer.sign(b')')?;
         }
         Expression::Not { of, .. } => {
-            open(printer, b"not")?;
+            open(printer, word_of(Kind::Not))?;
             print_expression(printer, of.get())?;
             printer.sign(b')')?;
         }
@@ -132,7 +134,7 @@ pub fn print_expression(printer: &mut Printer, expression: &Expression) -> Resul
             when_zero,
             ..
         } => {
-            open(printer, b"mux")?;
+            open(printer, word_of(Kind::Mux))?;
             print_expression(printer, condition.get())?;
             printer.sign(b',')?;
             print_expression(printer, when_one.get())?;

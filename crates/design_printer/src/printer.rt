@@ -1,10 +1,13 @@
 //! A text that grows by one token after another.
-ghost use Rattle.std.specs.Prelude.{◌≡◌, ◌++◌, ◌==◌, ◌||◌, not, [], ◌∷◌, false, if◌then◌else◌, OnOk};
+ghost use Rattle.std.specs.Prelude.{◌≡◌, ◌++◌, not, [], ◌∷◌, false, if◌then◌else◌, OnOk};
 ghost use Rattle.design_lex.specs.declared.token.Token.TheVariants.{Word as word_token, TypeWord as type_word_token, Number as number_token, Sign as sign_token};
+ghost use Rattle.design_grammar.specs.Kinds.{keyword};
 ghost use Rattle.design_printer.specs.Canonical.{ends_line, no_space_before};
 ghost use Rattle.design_printer.specs.Printers.{with_token, allows_space_after};
 
 use channel_types::printing::{push_class, push_number};
+use design_grammar::Kind;
+use design_grammar::words::word_of;
 use design_lex::Class;
 use esi_base::{List, NoMemory, Octets};
 use std::alloc::Global;
@@ -40,7 +43,7 @@ impl Printer {
         Ok(())
     }
 
-    /// Adds a word: a name or a keyword.
+    /// Adds a word: a name, or another word by its octets.
     #[tactic(auto, unfolding(crate::specs::Printers::with_token))]
     pub fn word(&mut self, octets: &[u8]) -> Result<(), NoMemory>
         ensures { OnOk result (self.new ≡ with_token (word_token octets.now) self.old) }
@@ -49,6 +52,13 @@ impl Printer {
         self.text.push_all(octets)?;
         self.allows_space = true;
         Ok(())
+    }
+
+    /// Adds a keyword, by its kind.
+    pub fn keyword(&mut self, kind: Kind) -> Result<(), NoMemory>
+        ensures { OnOk result (self.new ≡ with_token (word_token (keyword kind)) self.old) }
+    {
+        self.word(word_of(kind))
     }
 
     /// Adds a number, in decimal.

@@ -1,12 +1,13 @@
 //! The printers of statements and of operations.
 ghost use Rattle.std.specs.Prelude.{◌≡◌, map, OnOk};
-ghost use Rattle.design_tree.specs.Tokens.{with_commas, reference_tokens, operation_tokens, binding_tokens, single_name, statement_tokens};
+ghost use Rattle.design_tree.specs.Tokens.{with_commas, operation_tokens, binding_tokens, single_name, statement_tokens};
 ghost use Rattle.design_printer.specs.Printers.{with_tokens};
 
 use crate::expressions::print_expression;
 use crate::leaves::{print_comma, print_id, print_name, print_number, print_reference};
 use crate::printer::Printer;
 use crate::types::print_type;
+use design_grammar::Kind;
 use design_tree::{Binding, Name, Operation, Statement};
 use esi_base::NoMemory;
 
@@ -17,33 +18,33 @@ pub fn print_operation(printer: &mut Printer, operation: &Operation) -> Result<(
 {
     match operation {
         Operation::Stage(source) => {
-            printer.word(b"stage")?;
+            printer.keyword(Kind::Stage)?;
             print_reference(printer, source)?;
         }
         Operation::Fork(source) => {
-            printer.word(b"fork")?;
+            printer.keyword(Kind::Fork)?;
             print_reference(printer, source)?;
         }
         Operation::AsFifo(source) => {
-            printer.word(b"as_fifo")?;
+            printer.keyword(Kind::AsFifo)?;
             print_reference(printer, source)?;
         }
         Operation::AsVr(source) => {
-            printer.word(b"as_vr")?;
+            printer.keyword(Kind::AsVr)?;
             print_reference(printer, source)?;
         }
         Operation::Buffer { stages, source } => {
-            printer.word(b"buffer")?;
+            printer.keyword(Kind::Buffer)?;
             print_number(printer, stages)?;
             print_reference(printer, source)?;
         }
         Operation::Fifo { depth, source } => {
-            printer.word(b"fifo")?;
+            printer.keyword(Kind::Fifo)?;
             print_number(printer, depth)?;
             print_reference(printer, source)?;
         }
         Operation::Join { left, right } => {
-            printer.word(b"join")?;
+            printer.keyword(Kind::Join)?;
             print_reference(printer, left)?;
             printer.sign(b',')?;
             print_reference(printer, right)?;
@@ -53,7 +54,7 @@ pub fn print_operation(printer: &mut Printer, operation: &Operation) -> Result<(
             variable,
             body,
         } => {
-            printer.word(b"map")?;
+            printer.keyword(Kind::Map)?;
             print_reference(printer, source)?;
             printer.sign(b'(')?;
             print_name(printer, variable)?;
@@ -68,7 +69,7 @@ pub fn print_operation(printer: &mut Printer, operation: &Operation) -> Result<(
             variable,
             body,
         } => {
-            printer.word(b"scan")?;
+            printer.keyword(Kind::Scan)?;
             print_reference(printer, source)?;
             printer.sign(b'(')?;
             print_name(printer, state)?;
@@ -132,11 +133,11 @@ pub fn print_statement(printer: &mut Printer, statement: &Statement) -> Result<(
             id,
             ..
         } => {
-            printer.word(b"request")?;
+            printer.keyword(Kind::Request)?;
             print_name(printer, service)?;
             printer.sign(b'.')?;
             print_name(printer, port)?;
-            printer.word(b"as")?;
+            printer.keyword(Kind::As)?;
             print_id(printer, id)?;
         }
         Statement::Instance {
@@ -145,7 +146,7 @@ pub fn print_statement(printer: &mut Printer, statement: &Statement) -> Result<(
             bindings,
             ..
         } => {
-            printer.word(b"inst")?;
+            printer.keyword(Kind::Inst)?;
             print_id(printer, id)?;
             printer.sign(b'=')?;
             print_name(printer, module)?;
@@ -158,13 +159,13 @@ pub fn print_statement(printer: &mut Printer, statement: &Statement) -> Result<(
             operation,
             ..
         } => {
-            printer.word(b"chan")?;
+            printer.keyword(Kind::Chan)?;
             print_names(printer, names.as_slice())?;
             printer.sign(b'=')?;
             print_operation(printer, operation)?;
         }
         Statement::Drive { sink, source, .. } => {
-            printer.word(b"drive")?;
+            printer.keyword(Kind::Drive)?;
             print_reference(printer, sink)?;
             printer.sign(b'=')?;
             print_reference(printer, source)?;

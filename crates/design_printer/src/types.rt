@@ -6,6 +6,7 @@ ghost use Rattle.design_printer.specs.Printers.{with_tokens};
 use crate::leaves::print_comma;
 use crate::printer::Printer;
 use channel_types::{EsiType, Field};
+use design_grammar::Kind;
 use esi_base::NoMemory;
 
 /// Adds a field of a struct: its name, `:` and its type.
@@ -27,9 +28,9 @@ pub fn print_type(printer: &mut Printer, ty: &EsiType) -> Result<(), NoMemory>
 {
     match ty {
         EsiType::Bits { class, width } => printer.type_word(*class, *width)?,
-        EsiType::Void => printer.word(b"void")?,
+        EsiType::Void => printer.keyword(Kind::Void)?,
         EsiType::Struct(fields) => {
-            printer.word(b"struct")?;
+            printer.keyword(Kind::Struct)?;
             printer.sign(b'<')?;
             let mut is_first = true;
             for field in fields.as_slice() {
@@ -40,7 +41,7 @@ pub fn print_type(printer: &mut Printer, ty: &EsiType) -> Result<(), NoMemory>
             printer.sign(b'>')?;
         }
         EsiType::Array { item, count } => {
-            printer.word(b"array")?;
+            printer.keyword(Kind::Array)?;
             printer.sign(b'<')?;
             print_type(printer, item.get())?;
             printer.sign(b',')?;

@@ -1,19 +1,20 @@
 -- The readers of declarations and designs read exactly the grammar, whatever reads the types and the statements in them.
-use Rattle.std.proofs.Common.{◌≡◌, ℕ, true, List, [], ◌∷◌, ◌++◌, refl}
+use Rattle.std.proofs.Common.{◌≡◌, ℕ, true, [], ◌∷◌, refl}
 use Rattle.ll1_grammar.specs.Rule.{Kinds, Tree, ◌⟫◌}
 use Rattle.ll1_grammar.specs.Rule.Rule.{alt, star}
 use Rattle.ll1_grammar.specs.Kinds.{first, second}
 use Rattle.ll1_grammar.specs.declared.refusal.TokenRefusal.{TokenRefusal}
 use Rattle.ll1_grammar.specs.Trees.{Checks}
 use Rattle.ll1_grammar.specs.Parse.{Parser}
-use Rattle.ll1_grammar.specs.WholeTexts.{Readable, begins_alike}
+use Rattle.ll1_grammar.specs.WholeTexts.{Readable}
 use Rattle.ll1_grammar.specs.Readers.{Reader}
-use Rattle.ll1_grammar.specs.Bridge.{Implements, read_of, items, through_items, empty_implements, map_implements, seq_implements, any_implements, alt_implements, star_implements}
+use Rattle.ll1_grammar.specs.Bridge.{Implements, items, empty_implements, map_implements, seq_implements, any_implements, alt_implements}
 use Rattle.design_lex.specs.declared.token.Token.{Token}
 use Rattle.design_grammar.specs.declared.kind.Kind.TheVariants.{Semicolon, Colon, Comma, OpenBrace, CloseBrace, OpenParenthesis, CloseParenthesis, Esi, Pipe, Stages, Bundle, Service, Module, Top, ToHw, FromHw, Port, In, Out, Implement}
 use Rattle.design_grammar.specs.Kinds.{code, names, word_kind}
 use Rattle.design_grammar.specs.Rules.{designs, token, a_type, optional, listed, member_rule, bundle_rule, service_port_rule, service_rule, module_port_rule, module_rule, item_rule, pipe_rule, implement_rule, top_rule, form_rule, design_rule, statement_rule}
 use Rattle.design_grammar.specs.Implementing.{countless, behind_countless, expect_implements, version_implements, then_implements, last_implements}
+use Rattle.design_grammar.specs.Lists.{after_comma, items_implements}
 use Rattle.channel_types.specs.TypeGrammar.{Found}
 use Rattle.design_tree.specs.declared.statements.Statement.{Statement}
 use Rattle.design_tree.specs.declared.declarations.Direction.TheVariants.{ToHardware, FromHardware}
@@ -27,15 +28,15 @@ use Rattle.design_tree.specs.declared.top.TopItem.{TopItem}
 use Rattle.design_tree.specs.declared.top.TopItem.TheVariants as B
 use Rattle.design_tree.specs.declared.design.DesignTree.TheVariants as F
 use Rattle.design_expressions.specs.ExpressionValues.{name_in}
-use Rattle.design_expressions.specs.ExpressionLaw.{implements_as, next_name_implements, next_number_implements}
+use Rattle.design_expressions.specs.ExpressionLaw.{next_name_implements, next_number_implements}
 use Rattle.design_reader.specs.DesignValues.{service_port_in, service_in, direction_in, port_direction_in, member_in, bundle_in, module_port_in, listed_ports_in, module_ports_in, pipe_in, module_in, declaration_in, top_item_in, top_in, tree_in, design_in}
 use Rattle.design_statements.specs.StatementReading.{statement_starts}
-use Rattle.design_reader.specs.DesignReading.{top_item_starts, declaration_starts, service_port, one_more_service_port, more_service_ports, service, to_hardware, from_hardware, direction, inwards, outwards, port_direction, member, one_more_member, more_members, bundle, module_port, one_more_module_port, more_module_ports, listed_module_ports, module_ports, pipe, one_more_statement, statements, module_definition, module_declaration, declaration, one_more_declaration, declarations, implement, top_item, one_more_top_item, top_items, top, declarations_and_top, tree, design}
+use Rattle.design_reader.specs.DesignReading.{top_item_starts, declaration_starts, service_port, more_service_ports, service, to_hardware, from_hardware, direction, inwards, outwards, port_direction, member, more_members, bundle, module_port, more_module_ports, listed_module_ports, module_ports, pipe, statements, module_definition, module_declaration, declaration, declarations, implement, top_item, top_items, top, declarations_and_top, tree, design}
 
 module _ (check : Checks Token) (env : ℕ → Parser Token) where
   -- ---- the parts of declarations
 
-  service_port_implements : Implements designs check env service_port service_port_in service_port_rule []
+  pub service_port_implements : Implements designs check env service_port service_port_in service_port_rule []
   unfolding service_port
   service_port_implements =
       seq_implements designs check env _ _ (expect_implements check env Port [] refl refl refl) (λ t1.
@@ -43,10 +44,6 @@ module _ (check : Checks Token) (env : ℕ → Parser Token) where
       seq_implements designs check env _ _ (expect_implements check env Colon _ refl refl refl) (λ t3.
       seq_implements designs check env _ _ (next_name_implements check env) (λ t4.
       last_implements check env Semicolon _ _ refl refl refl))))
-
-  pub one_more_service_port_implements : (front : List ServicePort) → Implements designs check env (one_more_service_port front) (λ w. front ++ service_port_in w ∷ []) service_port_rule []
-  unfolding one_more_service_port
-  one_more_service_port_implements front = map_implements designs check env (λ p. front ++ p ∷ []) service_port_implements
 
   direction_implements : Implements designs check env direction direction_in (alt (token ToHw) (token FromHw)) []
   unfolding direction to_hardware from_hardware
@@ -58,7 +55,7 @@ module _ (check : Checks Token) (env : ℕ → Parser Token) where
 
   -- `inner` reads what a type's rule does
   module _ (inner : Reader Token Found) (type_value : Tree Token → Found) (types_implements : Implements designs check env inner type_value a_type []) where
-    member_implements : Implements designs check env (member inner) (member_in type_value) member_rule []
+    pub member_implements : Implements designs check env (member inner) (member_in type_value) member_rule []
     unfolding member
     member_implements =
         seq_implements designs check env _ _ (next_name_implements check env) (λ t1.
@@ -67,11 +64,7 @@ module _ (check : Checks Token) (env : ℕ → Parser Token) where
         seq_implements designs check env _ _ types_implements (λ t4.
         last_implements check env Semicolon _ _ refl refl refl))))
 
-    pub one_more_member_implements : (front : List Member) → Implements designs check env (one_more_member inner front) (λ w. front ++ member_in type_value w ∷ []) member_rule []
-    unfolding one_more_member
-    one_more_member_implements front = map_implements designs check env (λ m. front ++ m ∷ []) member_implements
-
-    module_port_implements : Implements designs check env (module_port inner) (module_port_in type_value) module_port_rule []
+    pub module_port_implements : Implements designs check env (module_port inner) (module_port_in type_value) module_port_rule []
     unfolding module_port
     module_port_implements =
         seq_implements designs check env _ _ port_direction_implements (λ t1.
@@ -79,9 +72,8 @@ module _ (check : Checks Token) (env : ℕ → Parser Token) where
         seq_implements designs check env _ _ (expect_implements check env Colon _ refl refl refl) (λ t3.
         map_implements designs check env (λ ty. record { direction = port_direction_in t1; name = name_in t2; ty = ty.0 }) types_implements)))
 
-    pub one_more_module_port_implements : (front : List ModulePort) → Implements designs check env (one_more_module_port inner front) (λ w. front ++ module_port_in type_value (second w) ∷ []) (token Comma ⟫ module_port_rule) []
-    unfolding one_more_module_port
-    one_more_module_port_implements front = then_implements check env Comma [] refl refl refl (map_implements designs check env (λ p. front ++ p ∷ []) module_port_implements)
+    pub other_port_implements : Implements designs check env (after_comma (module_port inner)) (λ w. module_port_in type_value (second w)) (token Comma ⟫ module_port_rule) []
+    other_port_implements = then_implements check env Comma [] refl refl refl module_port_implements
 
     pipe_implements : Implements designs check env (pipe inner) (λ t. pipe_in type_value (second t)) pipe_rule []
     unfolding pipe
@@ -104,9 +96,7 @@ module _ (check : Checks Token) (env : ℕ → Parser Token) where
   module _ (called : ℕ → Tree Token → Type 0) (bad : ℕ → TokenRefusal → ℕ → Tree Token → Type 0) (all : Readable designs check called bad env) where
     more_service_ports_implements : (p : ServicePort) (also : Kinds) → Implements designs check env (more_service_ports p) (λ t. p ∷ items service_port_in t) (star service_port_rule) also
     unfolding word_kind
-    more_service_ports_implements p also =
-        implements_as check env (star_implements designs check env (code Port ∷ []) (p ∷ []) also refl (begins_alike designs check called bad env all service_port_rule refl) one_more_service_port_implements)
-        (λ t. through_items service_port_in (p ∷ []) t)
+    more_service_ports_implements p also = items_implements check env called bad all service_port_rule refl service_port_implements (code Port ∷ []) refl (p ∷ []) also
 
     service_implements : (also : Kinds) → countless also ≡ true → Implements designs check env service (λ t. service_in (second t)) service_rule also
     unfolding service
@@ -121,9 +111,7 @@ module _ (check : Checks Token) (env : ℕ → Parser Token) where
     module _ (inner : Reader Token Found) (type_value : Tree Token → Found) (types_implements : Implements designs check env inner type_value a_type []) where
       more_members_implements : (m : Member) (also : Kinds) → Implements designs check env (more_members inner m) (λ t. m ∷ items (member_in type_value) t) (star member_rule) also
       unfolding word_kind
-      more_members_implements m also =
-          implements_as check env (star_implements designs check env names (m ∷ []) also refl (begins_alike designs check called bad env all member_rule refl) (one_more_member_implements inner type_value types_implements))
-          (λ t. through_items (member_in type_value) (m ∷ []) t)
+      more_members_implements m also = items_implements check env called bad all member_rule refl (member_implements inner type_value types_implements) names refl (m ∷ []) also
 
       bundle_implements : Implements designs check env (bundle inner) (λ t. bundle_in type_value (second t)) bundle_rule []
       unfolding bundle
@@ -138,8 +126,7 @@ module _ (check : Checks Token) (env : ℕ → Parser Token) where
       more_module_ports_implements : (p : ModulePort) (also : Kinds) → Implements designs check env (more_module_ports inner p) (λ t. p ∷ items (λ w. module_port_in type_value (second w)) t) (star (token Comma ⟫ module_port_rule)) also
       unfolding word_kind
       more_module_ports_implements p also =
-          implements_as check env (star_implements designs check env (code Comma ∷ []) (p ∷ []) also refl (begins_alike designs check called bad env all (token Comma ⟫ module_port_rule) refl) (one_more_module_port_implements inner type_value types_implements))
-          (λ t. through_items (λ w. module_port_in type_value (second w)) (p ∷ []) t)
+          items_implements check env called bad all (token Comma ⟫ module_port_rule) refl (other_port_implements inner type_value types_implements) (code Comma ∷ []) refl (p ∷ []) also
 
       listed_module_ports_implements : Implements designs check env (listed_module_ports inner) (listed_ports_in type_value) (listed module_port_rule) []
       unfolding listed_module_ports
@@ -151,15 +138,9 @@ module _ (check : Checks Token) (env : ℕ → Parser Token) where
 
       -- `statement` reads what a statement's rule does
       module _ (statement : Reader Token Statement) (statement_value : Tree Token → Statement) (statements_implements : Implements designs check env statement statement_value statement_rule []) where
-        pub one_more_statement_implements : (front : List Statement) → Implements designs check env (one_more_statement statement front) (λ w. front ++ statement_value w ∷ []) statement_rule []
-        unfolding one_more_statement
-        one_more_statement_implements front = map_implements designs check env (λ s. front ++ s ∷ []) statements_implements
-
         statement_list_implements : (also : Kinds) → Implements designs check env (statements statement) (items statement_value) (star statement_rule) also
         unfolding word_kind
-        statement_list_implements also =
-            implements_as check env (star_implements designs check env statement_starts [] also refl (begins_alike designs check called bad env all statement_rule refl) one_more_statement_implements)
-            (λ t. through_items statement_value [] t)
+        statement_list_implements also = items_implements check env called bad all statement_rule refl statements_implements statement_starts refl [] also
 
         module_implements : (also : Kinds) → countless also ≡ true → Implements designs check env (module_definition inner statement) (λ t. module_in type_value statement_value (second t)) module_rule also
         unfolding module_definition
@@ -173,35 +154,23 @@ module _ (check : Checks Token) (env : ℕ → Parser Token) where
             seq_implements designs check env _ _ (statement_list_implements _) (λ t7.
             last_implements check env CloseBrace _ _ (behind_countless (star statement_rule) t7 [] refl refl) refl refl)))))))
 
-        declaration_implements : Implements designs check env (declaration inner statement) (declaration_in type_value statement_value) item_rule []
+        pub declaration_implements : Implements designs check env (declaration inner statement) (declaration_in type_value statement_value) item_rule []
         unfolding declaration module_declaration
         declaration_implements =
             alt_implements designs check env (code Bundle) refl (map_implements designs check env (λ b. I.Bundle b) bundle_implements)
             (alt_implements designs check env (code Service) refl (map_implements designs check env (λ s. I.Service s) (service_implements _ refl)) (map_implements designs check env (λ m. I.Module m) (module_implements _ refl)))
 
-        pub one_more_declaration_implements : (front : List Declaration) → Implements designs check env (one_more_declaration inner statement front) (λ w. front ++ declaration_in type_value statement_value w ∷ []) item_rule []
-        unfolding one_more_declaration
-        one_more_declaration_implements front = map_implements designs check env (λ i. front ++ i ∷ []) declaration_implements
-
         declarations_implements : (also : Kinds) → Implements designs check env (declarations inner statement) (items (declaration_in type_value statement_value)) (star item_rule) also
         unfolding word_kind
-        declarations_implements also =
-            implements_as check env (star_implements designs check env declaration_starts [] also refl (begins_alike designs check called bad env all item_rule refl) one_more_declaration_implements)
-            (λ t. through_items (declaration_in type_value statement_value) [] t)
+        declarations_implements also = items_implements check env called bad all item_rule refl declaration_implements declaration_starts refl [] also
 
-        top_item_implements : Implements designs check env (top_item statement) (top_item_in statement_value) (alt statement_rule implement_rule) []
+        pub top_item_implements : Implements designs check env (top_item statement) (top_item_in statement_value) (alt statement_rule implement_rule) []
         unfolding top_item
         top_item_implements = any_implements designs check env (map_implements designs check env (λ s. B.Statement s) statements_implements) (implement_implements _ refl)
 
-        pub one_more_top_item_implements : (front : List TopItem) → Implements designs check env (one_more_top_item statement front) (λ w. front ++ top_item_in statement_value w ∷ []) (alt statement_rule implement_rule) []
-        unfolding one_more_top_item
-        one_more_top_item_implements front = map_implements designs check env (λ p. front ++ p ∷ []) top_item_implements
-
         top_items_implements : (also : Kinds) → Implements designs check env (top_items statement) (items (top_item_in statement_value)) (star (alt statement_rule implement_rule)) also
         unfolding word_kind
-        top_items_implements also =
-            implements_as check env (star_implements designs check env top_item_starts [] also refl (begins_alike designs check called bad env all (alt statement_rule implement_rule) refl) one_more_top_item_implements)
-            (λ t. through_items (top_item_in statement_value) [] t)
+        top_items_implements also = items_implements check env called bad all (alt statement_rule implement_rule) refl top_item_implements top_item_starts refl [] also
 
         top_implements : (also : Kinds) → countless also ≡ true → Implements designs check env (top statement) (λ t. top_in statement_value (second t)) top_rule also
         unfolding top

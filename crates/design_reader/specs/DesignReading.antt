@@ -1,12 +1,13 @@
 -- The readers of declarations and designs, as functions of the lexemes that are left.
 use Rattle.std.specs.Prelude.{ℕ, List, [], ◌∷◌, ◌++◌}
 use Rattle.ll1_grammar.specs.Rule.{Kinds}
-use Rattle.ll1_grammar.specs.Readers.{Reader, pure, ◌>>=◌, ◌>>◌, on, on_any, all_onto}
+use Rattle.ll1_grammar.specs.Readers.{Reader, pure, ◌>>=◌, ◌>>◌, on, on_any}
 use Rattle.design_lex.specs.declared.token.Token.{Token}
 use Rattle.design_grammar.specs.declared.kind.Kind.TheVariants.{One, Semicolon, Colon, Comma, OpenBrace, CloseBrace, OpenParenthesis, CloseParenthesis, Esi, Pipe, Stages, Bundle, Service, Module, Top, ToHw, FromHw, Port, In, Out, Implement}
 use Rattle.design_grammar.specs.Kinds.{code, names}
 use Rattle.design_grammar.specs.Grammar.{expect}
 use Rattle.design_grammar.specs.Rules.{designs}
+use Rattle.design_grammar.specs.Lists.{items_onto, after_comma}
 use Rattle.channel_types.specs.TypeGrammar.{Found}
 use Rattle.design_tree.specs.declared.statements.Statement.{Statement}
 use Rattle.design_tree.specs.declared.declarations.Direction.{Direction}
@@ -28,7 +29,7 @@ use Rattle.design_tree.specs.declared.top.Top as a_top
 use Rattle.design_tree.specs.declared.design.DesignTree.{DesignTree}
 use Rattle.design_tree.specs.declared.design.DesignTree.TheVariants as F
 use Rattle.design_types.specs.TypeReading.{type_at}
-use Rattle.design_expressions.specs.ExpressionReading.{next_name, next_number, expression_at}
+use Rattle.design_expressions.specs.ExpressionReading.{next_name, next_number}
 use Rattle.design_statements.specs.StatementReading.{statement_at, statement_starts}
 
 -- the kinds with which a module's port, an item of the top's body, and a declaration begin
@@ -52,12 +53,9 @@ service_port = do
   expect Semicolon
   pure (record { name = n; bundle = b })
 
-unfoldable pub one_more_service_port : List ServicePort → Reader Token (List ServicePort)
-one_more_service_port front = service_port >>= λ p. pure (front ++ p ∷ [])
-
 -- the first and all after it
 abbrev pub more_service_ports : ServicePort → Reader Token (List ServicePort)
-more_service_ports p = all_onto designs (code Port ∷ []) one_more_service_port (p ∷ [])
+more_service_ports p = items_onto (code Port ∷ []) service_port (p ∷ [])
 
 unfoldable pub service : Reader Token a_service.Service
 service = do
@@ -109,12 +107,9 @@ module _ (inner : Reader Token Found) where
     expect Semicolon
     pure (record { name = n; direction = d; ty = ty.0 })
 
-  unfoldable pub one_more_member : List Member → Reader Token (List Member)
-  one_more_member front = member >>= λ m. pure (front ++ m ∷ [])
-
   -- the first and all after it
   abbrev pub more_members : Member → Reader Token (List Member)
-  more_members m = all_onto designs names one_more_member (m ∷ [])
+  more_members m = items_onto names member (m ∷ [])
 
   unfoldable pub bundle : Reader Token a_bundle.Bundle
   bundle = do
@@ -134,13 +129,9 @@ module _ (inner : Reader Token Found) where
     ty ← inner
     pure (record { direction = d; name = n; ty = ty.0 })
 
-  -- one more, after a comma
-  unfoldable pub one_more_module_port : List ModulePort → Reader Token (List ModulePort)
-  one_more_module_port front = expect Comma >> (module_port >>= λ p. pure (front ++ p ∷ []))
-
   -- the first and all those after commas
   abbrev pub more_module_ports : ModulePort → Reader Token (List ModulePort)
-  more_module_ports p = all_onto designs (code Comma ∷ []) one_more_module_port (p ∷ [])
+  more_module_ports p = items_onto (code Comma ∷ []) (after_comma module_port) (p ∷ [])
 
   unfoldable pub listed_module_ports : Reader Token (List ModulePort)
   listed_module_ports = module_port >>= more_module_ports
@@ -161,20 +152,14 @@ module _ (inner : Reader Token Found) where
 -- ---- bodies: `statement` reads a statement
 
 module _ (statement : Reader Token Statement) where
-  unfoldable pub one_more_statement : List Statement → Reader Token (List Statement)
-  one_more_statement front = statement >>= λ s. pure (front ++ s ∷ [])
-
   abbrev pub statements : Reader Token (List Statement)
-  statements = all_onto designs statement_starts one_more_statement []
+  statements = items_onto statement_starts statement []
 
   unfoldable pub top_item : Reader Token TopItem
   top_item = on_any designs statement_starts (statement >>= λ s. pure (B.Statement s)) implement
 
-  unfoldable pub one_more_top_item : List TopItem → Reader Token (List TopItem)
-  one_more_top_item front = top_item >>= λ p. pure (front ++ p ∷ [])
-
   abbrev pub top_items : Reader Token (List TopItem)
-  top_items = all_onto designs top_item_starts one_more_top_item []
+  top_items = items_onto top_item_starts top_item []
 
   unfoldable pub top : Reader Token a_top.Top
   top = do
@@ -206,11 +191,8 @@ module _ (inner : Reader Token Found) (statement : Reader Token Statement) where
   unfoldable pub declaration : Reader Token Declaration
   declaration = on designs (code Bundle) (bundle inner >>= λ b. pure (I.Bundle b)) (on designs (code Service) (service >>= λ s. pure (I.Service s)) module_declaration)
 
-  unfoldable pub one_more_declaration : List Declaration → Reader Token (List Declaration)
-  one_more_declaration front = declaration >>= λ i. pure (front ++ i ∷ [])
-
   abbrev pub declarations : Reader Token (List Declaration)
-  declarations = all_onto designs declaration_starts one_more_declaration []
+  declarations = items_onto declaration_starts declaration []
 
   unfoldable pub declarations_and_top : Reader Token DesignTree
   declarations_and_top = do

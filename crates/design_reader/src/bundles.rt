@@ -1,7 +1,7 @@
 //! The readers of bundles.
-ghost use Rattle.std.specs.Prelude.{◌≡◌};
-ghost use Rattle.esi_base.specs.Answers.{ReadsAs};
+ghost use Rattle.design_grammar.specs.Kinds.{names};
 ghost use Rattle.design_grammar.specs.Grammar.{AnswersAt, StandsAt};
+ghost use Rattle.design_expressions.specs.declared.limits.TheConstants.{OPEN_EXPRESSIONS};
 ghost use Rattle.design_types.specs.TypeReading.{type_at};
 ghost use Rattle.channel_types.specs.declared.limits.TheConstants.{OPEN_TYPES};
 ghost use Rattle.design_reader.specs.DesignReading as spec;
@@ -9,11 +9,10 @@ ghost use Rattle.design_reader.specs.DesignReading as spec;
 use design_expressions::next_name;
 use design_grammar::kind::is_name;
 use design_grammar::reading::expect;
-use design_grammar::{Kind, TokenStop, is_same, kind_of};
+use design_grammar::{Kind, Listed, TokenStop, is_same, items_after, kind_of};
 use design_lex::Cursor;
 use design_tree::{Bundle, Direction, Member};
 use design_types::next_type;
-use esi_base::List;
 use std::alloc::Global;
 
 /// `to_hw`
@@ -67,36 +66,30 @@ fn member(cursor: &mut Cursor<'_>, alloc: Global) -> Result<Member, TokenStop>
     })
 }
 
-/// One more channel.
-#[tactic(auto, unfolding(crate::specs::DesignReading::one_more_member))]
-fn one_more_member(
-    cursor: &mut Cursor<'_>,
-    alloc: Global,
-    members: &mut List<Member>,
-) -> Result<(), TokenStop>
-    ensures reads { ReadsAs (λ _. members.new) (spec.one_more_member (type_at OPEN_TYPES) members.old cursor.old) result cursor.new }
-    ensures stands { StandsAt result cursor.new }
-{
-    let member = member(cursor, alloc)?;
-    members.add(member)?;
-    Ok(())
-}
+/// The list of the channels after the first one.
+struct OtherMembers;
 
-/// All channels, of which the first was read already.
-fn more_members(
-    cursor: &mut Cursor<'_>,
-    alloc: Global,
-    first: Member,
-) -> Result<List<Member>, TokenStop>
-    ensures reads { AnswersAt (spec.more_members (type_at OPEN_TYPES) first cursor.old) result cursor.new }
-    ensures stands { StandsAt result cursor.new }
-{
-    let mut members = List::new(alloc);
-    members.add(first)?;
-    while is_name(kind_of(cursor.peek())) {
-        one_more_member(cursor, alloc, &mut members)?;
+impl Listed for OtherMembers {
+    ghost use Rattle.std.specs.Prelude.{refl};
+    ghost use Rattle.design_reader.specs.DesignSteps.{member_shorter};
+
+    type Item = Member;
+
+    ghost reader = { spec.member (type_at OPEN_TYPES) };
+
+    ghost starts = { names };
+
+    fn begins(kind: Kind) -> bool {
+        is_name(kind)
     }
-    Ok(members)
+
+    fn next(cursor: &mut Cursor<'_>, alloc: Global) -> Result<Member, TokenStop> {
+        member(cursor, alloc)
+    }
+
+    ghost shorter = { member_shorter OPEN_EXPRESSIONS };
+
+    ghost ends = { refl };
 }
 
 /// A bundle: its name, and in braces its channels.
@@ -109,7 +102,7 @@ pub fn next_bundle(cursor: &mut Cursor<'_>, alloc: Global) -> Result<Bundle, Tok
     let name = next_name(cursor, alloc)?;
     expect(cursor, Kind::OpenBrace)?;
     let first = member(cursor, alloc)?;
-    let members = more_members(cursor, alloc, first)?;
+    let members = items_after::<OtherMembers>(cursor, alloc, first)?;
     expect(cursor, Kind::CloseBrace)?;
     Ok(Bundle { name, members })
 }

@@ -1,8 +1,4 @@
 //! The readers of the top, of a pipe, and of a whole design.
-ghost use Rattle.std.specs.Prelude.{◌≡◌};
-ghost use Rattle.esi_base.specs.Answers.{ReadsAs};
-ghost use Rattle.ll1_grammar.specs.Kinds.{among};
-ghost use Rattle.design_grammar.specs.Kinds as kinds;
 ghost use Rattle.design_grammar.specs.Grammar.{AnswersAt, StandsAt};
 ghost use Rattle.design_types.specs.TypeReading.{type_at};
 ghost use Rattle.design_expressions.specs.declared.limits.TheConstants.{OPEN_EXPRESSIONS};
@@ -15,12 +11,11 @@ use crate::modules::next_module;
 use crate::services::next_service;
 use design_expressions::{next_name, next_number};
 use design_grammar::reading::expect;
-use design_grammar::{Kind, TokenStop, is_same, kind_of};
+use design_grammar::{Kind, Listed, TokenStop, is_same, kind_of, next_items};
 use design_lex::Cursor;
 use design_statements::{begins_statement, next_statement};
 use design_tree::{Declaration, DesignTree, Pipe, Top, TopItem};
 use design_types::next_type;
-use esi_base::List;
 use std::alloc::Global;
 
 /// A module, as a declaration.
@@ -48,38 +43,30 @@ fn declaration(cursor: &mut Cursor<'_>, alloc: Global) -> Result<Declaration, To
     }
 }
 
-/// One more declaration.
-#[tactic(auto, unfolding(crate::specs::DesignReading::one_more_declaration))]
-fn one_more_declaration(
-    cursor: &mut Cursor<'_>,
-    alloc: Global,
-    declarations: &mut List<Declaration>,
-) -> Result<(), TokenStop>
-    ensures reads { ReadsAs (λ _. declarations.new) (spec.one_more_declaration (type_at OPEN_TYPES) (statement_at OPEN_TYPES OPEN_EXPRESSIONS) declarations.old cursor.old) result cursor.new }
-    ensures stands { StandsAt result cursor.new }
-{
-    let declaration = declaration(cursor, alloc)?;
-    declarations.add(declaration)?;
-    Ok(())
-}
+/// The list of the declarations before the top.
+struct Declarations;
 
-/// Whether a declaration begins with a token of this kind.
-fn begins_declaration(kind: Kind) -> bool
-    ensures { result ≡ among spec.declaration_starts (kinds.code kind) }
-{
-    matches!(kind, Kind::Bundle | Kind::Service | Kind::Module)
-}
+impl Listed for Declarations {
+    ghost use Rattle.std.specs.Prelude.{refl};
+    ghost use Rattle.design_reader.specs.DesignSteps.{declaration_shorter};
 
-/// The declarations before the top, maybe none.
-fn declarations(cursor: &mut Cursor<'_>, alloc: Global) -> Result<List<Declaration>, TokenStop>
-    ensures reads { AnswersAt (spec.declarations (type_at OPEN_TYPES) (statement_at OPEN_TYPES OPEN_EXPRESSIONS) cursor.old) result cursor.new }
-    ensures stands { StandsAt result cursor.new }
-{
-    let mut declarations = List::new(alloc);
-    while begins_declaration(kind_of(cursor.peek())) {
-        one_more_declaration(cursor, alloc, &mut declarations)?;
+    type Item = Declaration;
+
+    ghost reader = { spec.declaration (type_at OPEN_TYPES) (statement_at OPEN_TYPES OPEN_EXPRESSIONS) };
+
+    ghost starts = { spec.declaration_starts };
+
+    fn begins(kind: Kind) -> bool {
+        matches!(kind, Kind::Bundle | Kind::Service | Kind::Module)
     }
-    Ok(declarations)
+
+    fn next(cursor: &mut Cursor<'_>, alloc: Global) -> Result<Declaration, TokenStop> {
+        declaration(cursor, alloc)
+    }
+
+    ghost shorter = { declaration_shorter OPEN_EXPRESSIONS };
+
+    ghost ends = { refl };
 }
 
 /// `implement`: a service that the host implements.
@@ -107,38 +94,30 @@ fn top_item(cursor: &mut Cursor<'_>, alloc: Global) -> Result<TopItem, TokenStop
     }
 }
 
-/// One more item of the top's body.
-#[tactic(auto, unfolding(crate::specs::DesignReading::one_more_top_item))]
-fn one_more_top_item(
-    cursor: &mut Cursor<'_>,
-    alloc: Global,
-    items: &mut List<TopItem>,
-) -> Result<(), TokenStop>
-    ensures reads { ReadsAs (λ _. items.new) (spec.one_more_top_item (statement_at OPEN_TYPES OPEN_EXPRESSIONS) items.old cursor.old) result cursor.new }
-    ensures stands { StandsAt result cursor.new }
-{
-    let item = top_item(cursor, alloc)?;
-    items.add(item)?;
-    Ok(())
-}
+/// The list of the items of the top's body.
+struct TopItems;
 
-/// Whether an item of the top's body begins with a token of this kind.
-fn begins_top_item(kind: Kind) -> bool
-    ensures { result ≡ among spec.top_item_starts (kinds.code kind) }
-{
-    begins_statement(kind) || is_same(kind, Kind::Implement)
-}
+impl Listed for TopItems {
+    ghost use Rattle.std.specs.Prelude.{refl};
+    ghost use Rattle.design_reader.specs.DesignSteps.{top_item_shorter};
 
-/// The top's body, maybe empty.
-fn top_items(cursor: &mut Cursor<'_>, alloc: Global) -> Result<List<TopItem>, TokenStop>
-    ensures reads { AnswersAt (spec.top_items (statement_at OPEN_TYPES OPEN_EXPRESSIONS) cursor.old) result cursor.new }
-    ensures stands { StandsAt result cursor.new }
-{
-    let mut items = List::new(alloc);
-    while begins_top_item(kind_of(cursor.peek())) {
-        one_more_top_item(cursor, alloc, &mut items)?;
+    type Item = TopItem;
+
+    ghost reader = { spec.top_item (statement_at OPEN_TYPES OPEN_EXPRESSIONS) };
+
+    ghost starts = { spec.top_item_starts };
+
+    fn begins(kind: Kind) -> bool {
+        begins_statement(kind) || is_same(kind, Kind::Implement)
     }
-    Ok(items)
+
+    fn next(cursor: &mut Cursor<'_>, alloc: Global) -> Result<TopItem, TokenStop> {
+        top_item(cursor, alloc)
+    }
+
+    ghost shorter = { top_item_shorter OPEN_EXPRESSIONS };
+
+    ghost ends = { refl };
 }
 
 /// The top: its name, and its body in braces.
@@ -150,7 +129,7 @@ fn top(cursor: &mut Cursor<'_>, alloc: Global) -> Result<Top, TokenStop>
     expect(cursor, Kind::Top)?;
     let name = next_name(cursor, alloc)?;
     expect(cursor, Kind::OpenBrace)?;
-    let body = top_items(cursor, alloc)?;
+    let body = next_items::<TopItems>(cursor, alloc)?;
     expect(cursor, Kind::CloseBrace)?;
     Ok(Top { name, body })
 }
@@ -161,7 +140,7 @@ fn declarations_and_top(cursor: &mut Cursor<'_>, alloc: Global) -> Result<Design
     ensures reads { AnswersAt (spec.declarations_and_top (type_at OPEN_TYPES) (statement_at OPEN_TYPES OPEN_EXPRESSIONS) cursor.old) result cursor.new }
     ensures stands { StandsAt result cursor.new }
 {
-    let declarations = declarations(cursor, alloc)?;
+    let declarations = next_items::<Declarations>(cursor, alloc)?;
     let top = top(cursor, alloc)?;
     Ok(DesignTree::Modules { declarations, top })
 }

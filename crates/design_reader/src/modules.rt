@@ -1,18 +1,19 @@
 //! The readers of modules.
-ghost use Rattle.std.specs.Prelude.{◌≡◌};
-ghost use Rattle.esi_base.specs.Answers.{ReadsAs};
+ghost use Rattle.std.specs.Prelude.{◌≡◌, [], ◌∷◌};
 ghost use Rattle.ll1_grammar.specs.Kinds.{among};
+ghost use Rattle.design_grammar.specs.declared.kind.Kind.TheVariants.{Comma};
 ghost use Rattle.design_grammar.specs.Kinds as kinds;
 ghost use Rattle.design_grammar.specs.Grammar.{AnswersAt, StandsAt};
+ghost use Rattle.design_grammar.specs.Lists.{after_comma};
 ghost use Rattle.design_types.specs.TypeReading.{type_at};
 ghost use Rattle.design_expressions.specs.declared.limits.TheConstants.{OPEN_EXPRESSIONS};
 ghost use Rattle.channel_types.specs.declared.limits.TheConstants.{OPEN_TYPES};
-ghost use Rattle.design_statements.specs.StatementReading.{statement_at};
+ghost use Rattle.design_statements.specs.StatementReading.{statement_at, statement_starts};
 ghost use Rattle.design_reader.specs.DesignReading as spec;
 
 use design_expressions::next_name;
 use design_grammar::reading::expect;
-use design_grammar::{Kind, TokenStop, is_same, kind_of};
+use design_grammar::{Kind, Listed, TokenStop, is_same, items_after, kind_of, next_items};
 use design_lex::Cursor;
 use design_statements::{begins_statement, next_statement};
 use design_tree::{Module, ModulePort, PortDirection, Statement};
@@ -70,37 +71,31 @@ fn module_port(cursor: &mut Cursor<'_>, alloc: Global) -> Result<ModulePort, Tok
     })
 }
 
-/// One more port, after a comma.
-#[tactic(auto, unfolding(crate::specs::DesignReading::one_more_module_port))]
-fn one_more_module_port(
-    cursor: &mut Cursor<'_>,
-    alloc: Global,
-    ports: &mut List<ModulePort>,
-) -> Result<(), TokenStop>
-    ensures reads { ReadsAs (λ _. ports.new) (spec.one_more_module_port (type_at OPEN_TYPES) ports.old cursor.old) result cursor.new }
-    ensures stands { StandsAt result cursor.new }
-{
-    expect(cursor, Kind::Comma)?;
-    let port = module_port(cursor, alloc)?;
-    ports.add(port)?;
-    Ok(())
-}
+/// The list of the ports after the first one, each after a comma.
+struct OtherPorts;
 
-/// All ports, of which the first was read already.
-fn more_module_ports(
-    cursor: &mut Cursor<'_>,
-    alloc: Global,
-    first: ModulePort,
-) -> Result<List<ModulePort>, TokenStop>
-    ensures reads { AnswersAt (spec.more_module_ports (type_at OPEN_TYPES) first cursor.old) result cursor.new }
-    ensures stands { StandsAt result cursor.new }
-{
-    let mut ports = List::new(alloc);
-    ports.add(first)?;
-    while is_same(kind_of(cursor.peek()), Kind::Comma) {
-        one_more_module_port(cursor, alloc, &mut ports)?;
+impl Listed for OtherPorts {
+    ghost use Rattle.std.specs.Prelude.{refl};
+    ghost use Rattle.design_reader.specs.DesignSteps.{other_port_shorter};
+
+    type Item = ModulePort;
+
+    ghost reader = { after_comma (spec.module_port (type_at OPEN_TYPES)) };
+
+    ghost starts = { kinds.code Comma ∷ [] };
+
+    fn begins(kind: Kind) -> bool {
+        matches!(kind, Kind::Comma)
     }
-    Ok(ports)
+
+    fn next(cursor: &mut Cursor<'_>, alloc: Global) -> Result<ModulePort, TokenStop> {
+        expect(cursor, Kind::Comma)?;
+        module_port(cursor, alloc)
+    }
+
+    ghost shorter = { other_port_shorter OPEN_EXPRESSIONS };
+
+    ghost ends = { refl };
 }
 
 /// One port or more, with commas between them.
@@ -113,7 +108,7 @@ fn listed_module_ports(
     ensures stands { StandsAt result cursor.new }
 {
     let first = module_port(cursor, alloc)?;
-    more_module_ports(cursor, alloc, first)
+    items_after::<OtherPorts>(cursor, alloc, first)
 }
 
 /// Whether a module's port begins with a token of this kind.
@@ -136,31 +131,30 @@ fn module_ports(cursor: &mut Cursor<'_>, alloc: Global) -> Result<List<ModulePor
     }
 }
 
-/// One more statement.
-#[tactic(auto, unfolding(crate::specs::DesignReading::one_more_statement))]
-fn one_more_statement(
-    cursor: &mut Cursor<'_>,
-    alloc: Global,
-    statements: &mut List<Statement>,
-) -> Result<(), TokenStop>
-    ensures reads { ReadsAs (λ _. statements.new) (spec.one_more_statement (statement_at OPEN_TYPES OPEN_EXPRESSIONS) statements.old cursor.old) result cursor.new }
-    ensures stands { StandsAt result cursor.new }
-{
-    let statement = next_statement(cursor, alloc)?;
-    statements.add(statement)?;
-    Ok(())
-}
+/// The list of the statements of a body.
+struct Statements;
 
-/// The statements of a body, maybe none.
-fn statements(cursor: &mut Cursor<'_>, alloc: Global) -> Result<List<Statement>, TokenStop>
-    ensures reads { AnswersAt (spec.statements (statement_at OPEN_TYPES OPEN_EXPRESSIONS) cursor.old) result cursor.new }
-    ensures stands { StandsAt result cursor.new }
-{
-    let mut statements = List::new(alloc);
-    while begins_statement(kind_of(cursor.peek())) {
-        one_more_statement(cursor, alloc, &mut statements)?;
+impl Listed for Statements {
+    ghost use Rattle.std.specs.Prelude.{refl};
+    ghost use Rattle.design_reader.specs.DesignSteps.{statement_shorter};
+
+    type Item = Statement;
+
+    ghost reader = { statement_at OPEN_TYPES OPEN_EXPRESSIONS };
+
+    ghost starts = { statement_starts };
+
+    fn begins(kind: Kind) -> bool {
+        begins_statement(kind)
     }
-    Ok(statements)
+
+    fn next(cursor: &mut Cursor<'_>, alloc: Global) -> Result<Statement, TokenStop> {
+        next_statement(cursor, alloc)
+    }
+
+    ghost shorter = { statement_shorter OPEN_EXPRESSIONS };
+
+    ghost ends = { refl };
 }
 
 /// A module: its name, its ports in parentheses, and its body in braces.
@@ -175,7 +169,7 @@ pub fn next_module(cursor: &mut Cursor<'_>, alloc: Global) -> Result<Module, Tok
     let ports = module_ports(cursor, alloc)?;
     expect(cursor, Kind::CloseParenthesis)?;
     expect(cursor, Kind::OpenBrace)?;
-    let body = statements(cursor, alloc)?;
+    let body = next_items::<Statements>(cursor, alloc)?;
     expect(cursor, Kind::CloseBrace)?;
     Ok(Module { name, ports, body })
 }

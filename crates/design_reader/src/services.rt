@@ -1,15 +1,16 @@
 //! The readers of services.
-ghost use Rattle.std.specs.Prelude.{◌≡◌};
-ghost use Rattle.esi_base.specs.Answers.{ReadsAs};
+ghost use Rattle.std.specs.Prelude.{[], ◌∷◌};
+ghost use Rattle.design_grammar.specs.declared.kind.Kind.TheVariants.{Port};
+ghost use Rattle.design_grammar.specs.Kinds as kinds;
 ghost use Rattle.design_grammar.specs.Grammar.{AnswersAt, StandsAt};
+ghost use Rattle.design_expressions.specs.declared.limits.TheConstants.{OPEN_EXPRESSIONS};
 ghost use Rattle.design_reader.specs.DesignReading as spec;
 
 use design_expressions::next_name;
 use design_grammar::reading::expect;
-use design_grammar::{Kind, TokenStop, is_same, kind_of};
+use design_grammar::{Kind, Listed, TokenStop, items_after};
 use design_lex::Cursor;
 use design_tree::{Service, ServicePort};
-use esi_base::List;
 use std::alloc::Global;
 
 /// A port of a service.
@@ -26,36 +27,30 @@ fn service_port(cursor: &mut Cursor<'_>, alloc: Global) -> Result<ServicePort, T
     Ok(ServicePort { name, bundle })
 }
 
-/// One more port.
-#[tactic(auto, unfolding(crate::specs::DesignReading::one_more_service_port))]
-fn one_more_service_port(
-    cursor: &mut Cursor<'_>,
-    alloc: Global,
-    ports: &mut List<ServicePort>,
-) -> Result<(), TokenStop>
-    ensures reads { ReadsAs (λ _. ports.new) (spec.one_more_service_port ports.old cursor.old) result cursor.new }
-    ensures stands { StandsAt result cursor.new }
-{
-    let port = service_port(cursor, alloc)?;
-    ports.add(port)?;
-    Ok(())
-}
+/// The list of the ports after the first one.
+struct OtherPorts;
 
-/// All ports, of which the first was read already.
-fn more_service_ports(
-    cursor: &mut Cursor<'_>,
-    alloc: Global,
-    first: ServicePort,
-) -> Result<List<ServicePort>, TokenStop>
-    ensures reads { AnswersAt (spec.more_service_ports first cursor.old) result cursor.new }
-    ensures stands { StandsAt result cursor.new }
-{
-    let mut ports = List::new(alloc);
-    ports.add(first)?;
-    while is_same(kind_of(cursor.peek()), Kind::Port) {
-        one_more_service_port(cursor, alloc, &mut ports)?;
+impl Listed for OtherPorts {
+    ghost use Rattle.std.specs.Prelude.{refl};
+    ghost use Rattle.design_reader.specs.DesignSteps.{service_port_shorter};
+
+    type Item = ServicePort;
+
+    ghost reader = { spec.service_port };
+
+    ghost starts = { kinds.code Port ∷ [] };
+
+    fn begins(kind: Kind) -> bool {
+        matches!(kind, Kind::Port)
     }
-    Ok(ports)
+
+    fn next(cursor: &mut Cursor<'_>, alloc: Global) -> Result<ServicePort, TokenStop> {
+        service_port(cursor, alloc)
+    }
+
+    ghost shorter = { service_port_shorter OPEN_EXPRESSIONS };
+
+    ghost ends = { refl };
 }
 
 /// A service: its name, and in braces its ports.
@@ -68,7 +63,7 @@ pub fn next_service(cursor: &mut Cursor<'_>, alloc: Global) -> Result<Service, T
     let name = next_name(cursor, alloc)?;
     expect(cursor, Kind::OpenBrace)?;
     let first = service_port(cursor, alloc)?;
-    let ports = more_service_ports(cursor, alloc, first)?;
+    let ports = items_after::<OtherPorts>(cursor, alloc, first)?;
     expect(cursor, Kind::CloseBrace)?;
     Ok(Service { name, ports })
 }

@@ -1,32 +1,32 @@
 -- The readers of statements read exactly the grammar, whatever reads the types and the expressions in them.
-use Rattle.std.proofs.Common.{◌≡◌, ◌==◌, ℕ, true, false, List, [], ◌∷◌, ◌++◌, length, ◌<◌, Some, None, Ok, refl}
-use Rattle.ll1_grammar.specs.Lexemes.{Lexemes}
+use Rattle.std.proofs.Common.{◌≡◌, ◌==◌, ℕ, true, false, [], ◌∷◌, Some, None, refl}
 use Rattle.ll1_grammar.specs.Rule.{Kinds, Tree, ◌⟫◌}
 use Rattle.ll1_grammar.specs.Rule.Rule.{alt, star}
 use Rattle.ll1_grammar.specs.Kinds.{first, second, first_set}
 use Rattle.ll1_grammar.specs.declared.refusal.TokenRefusal.{TokenRefusal}
 use Rattle.ll1_grammar.specs.Trees.{Checks}
 use Rattle.ll1_grammar.specs.Parse.{Parser}
-use Rattle.ll1_grammar.specs.WholeTexts.{Readable, begins_alike, front_shorter}
+use Rattle.ll1_grammar.specs.WholeTexts.{Readable}
 use Rattle.ll1_grammar.specs.Readers.{Reader}
-use Rattle.ll1_grammar.specs.Bridge.{Implements, either, items, through_items, empty_implements, map_implements, seq_implements, any_implements, alt_implements, star_implements}
+use Rattle.ll1_grammar.specs.Bridge.{Implements, either, items, empty_implements, map_implements, seq_implements, any_implements, alt_implements}
 use Rattle.design_lex.specs.declared.token.Token.{Token}
 use Rattle.design_grammar.specs.declared.kind.Kind.{Kind}
 use Rattle.design_grammar.specs.declared.kind.Kind.TheVariants.{Semicolon, Colon, Comma, Dot, Equals, OpenParenthesis, CloseParenthesis, OpenBracket, CloseBracket, Request, As, Inst, Chan, Drive, Stage, Buffer, Fifo, Map, Scan, Fork, Join, AsFifo, AsVr}
 use Rattle.design_grammar.specs.Kinds.{code, word_kind}
 use Rattle.design_grammar.specs.Rules.{designs, token, a_name, a_number, a_type, an_expression, index_rule, id_rule, member_name_rule, reference_rule, join_rule, map_rule, scan_rule, operation_rule, request_rule, bound_rule, instance_rule, channels_rule, drive_rule, statement_rule, optional, listed}
 use Rattle.design_grammar.specs.Implementing.{countless, is_fixed, behind_countless, expect_implements, begin_implements, count_implements, then_implements, last_implements}
+use Rattle.design_grammar.specs.Lists.{after_comma, items_implements}
 use Rattle.channel_types.specs.TypeGrammar.{Found}
 use Rattle.design_tree.specs.declared.leaves.Name.{Name}
 use Rattle.design_tree.specs.declared.leaves.Reference.TheVariants as R
 use Rattle.design_tree.specs.declared.expression.Expression.{Expression}
 use Rattle.design_tree.specs.declared.statements.Binding.{Binding}
 use Rattle.design_tree.specs.declared.statements.Operation.TheVariants as O
-use Rattle.design_tree.specs.declared.statements.Statement.{Statement}
 use Rattle.design_expressions.specs.ExpressionValues.{name_in, number_at}
-use Rattle.design_expressions.specs.ExpressionLaw.{implements_as, next_name_implements, next_number_implements}
+use Rattle.design_expressions.specs.ExpressionReading.{next_name}
+use Rattle.design_expressions.specs.ExpressionLaw.{next_name_implements, next_number_implements}
 use Rattle.design_statements.specs.StatementValues.{begin_in, index_in, id_in, member_name_in, reference_from, reference_in, join_in, map_in, scan_in, operation_in, request_in, binding_in, listed_bindings_in, bindings_in, instance_in, drive_in, channels_in, statement_in}
-use Rattle.design_statements.specs.StatementReading.{statement_starts, index, optional_index, id, member_name, indexed_member, plain_member, member_or_channel, reference, operand, sized_operand, join, map, scan, wide_operation, sized_operation, operation, request, binding, one_more_binding, more_bindings, listed_bindings, bindings, instance, one_more_name, more_names, drive, channels, statement}
+use Rattle.design_statements.specs.StatementReading.{statement_starts, index, optional_index, id, member_name, indexed_member, plain_member, member_or_channel, reference, operand, sized_operand, join, map, scan, wide_operation, sized_operation, operation, request, binding, more_bindings, listed_bindings, bindings, instance, more_names, drive, channels, statement}
 
 -- what begins a statement
 pub starts_are : first_set designs statement_rule ≡ statement_starts
@@ -111,20 +111,18 @@ module _ (check : Checks Token) (env : ℕ → Parser Token) where
       seq_implements designs check env _ _ id_implements (λ t6.
       last_implements check env Semicolon _ _ (behind_countless id_rule t6 [] refl refl) refl refl))))))
 
-  pub binding_implements : Implements designs check env binding binding_in bound_rule []
+  binding_implements : Implements designs check env binding binding_in bound_rule []
   unfolding binding
   binding_implements =
       seq_implements designs check env _ _ (next_name_implements check env) (λ t1.
       seq_implements designs check env _ _ (expect_implements check env Colon _ refl refl refl) (λ t2.
       map_implements designs check env (λ r. record { port = name_in t1; source = r }) reference_implements))
 
-  pub one_more_binding_implements : (front : List Binding) → Implements designs check env (one_more_binding front) (λ w. front ++ binding_in (second w) ∷ []) (token Comma ⟫ bound_rule) []
-  unfolding one_more_binding
-  one_more_binding_implements front = then_implements check env Comma [] refl refl refl (map_implements designs check env (λ b. front ++ b ∷ []) binding_implements)
+  pub other_binding_implements : Implements designs check env (after_comma binding) (λ w. binding_in (second w)) (token Comma ⟫ bound_rule) []
+  other_binding_implements = then_implements check env Comma [] refl refl refl binding_implements
 
-  pub one_more_name_implements : (front : List Name) → Implements designs check env (one_more_name front) (λ w. front ++ name_in (second w) ∷ []) (token Comma ⟫ a_name) []
-  unfolding one_more_name
-  one_more_name_implements front = then_implements check env Comma [] refl refl refl (map_implements designs check env (λ n. front ++ n ∷ []) (next_name_implements check env))
+  pub other_name_implements : Implements designs check env (after_comma next_name) (λ w. name_in (second w)) (token Comma ⟫ a_name) []
+  other_name_implements = then_implements check env Comma [] refl refl refl (next_name_implements check env)
 
   drive_implements : (also : Kinds) → countless also ≡ true → Implements designs check env drive (λ t. drive_in (begin_in (first t)) (second t)) drive_rule also
   unfolding drive
@@ -180,15 +178,11 @@ module _ (check : Checks Token) (env : ℕ → Parser Token) where
   module _ (called : ℕ → Tree Token → Type 0) (bad : ℕ → TokenRefusal → ℕ → Tree Token → Type 0) (all : Readable designs check called bad env) where
     more_bindings_implements : (b : Binding) (also : Kinds) → Implements designs check env (more_bindings b) (λ t. b ∷ items (λ w. binding_in (second w)) t) (star (token Comma ⟫ bound_rule)) also
     unfolding word_kind
-    more_bindings_implements b also =
-        implements_as check env (star_implements designs check env (code Comma ∷ []) (b ∷ []) also refl (begins_alike designs check called bad env all (token Comma ⟫ bound_rule) refl) one_more_binding_implements)
-        (λ t. through_items (λ w. binding_in (second w)) (b ∷ []) t)
+    more_bindings_implements b also = items_implements check env called bad all (token Comma ⟫ bound_rule) refl other_binding_implements (code Comma ∷ []) refl (b ∷ []) also
 
     more_names_implements : (n : Name) (also : Kinds) → Implements designs check env (more_names n) (λ t. n ∷ items (λ w. name_in (second w)) t) (star (token Comma ⟫ a_name)) also
     unfolding word_kind
-    more_names_implements n also =
-        implements_as check env (star_implements designs check env (code Comma ∷ []) (n ∷ []) also refl (begins_alike designs check called bad env all (token Comma ⟫ a_name) refl) one_more_name_implements)
-        (λ t. through_items (λ w. name_in (second w)) (n ∷ []) t)
+    more_names_implements n also = items_implements check env called bad all (token Comma ⟫ a_name) refl other_name_implements (code Comma ∷ []) refl (n ∷ []) also
 
     listed_bindings_implements : Implements designs check env listed_bindings listed_bindings_in (listed bound_rule) []
     unfolding listed_bindings

@@ -1,13 +1,14 @@
 -- The readers of statements, as functions of the lexemes that are left.
-use Rattle.std.specs.Prelude.{ℕ, List, [], ◌∷◌, ◌++◌, Option, Some, None}
+use Rattle.std.specs.Prelude.{ℕ, List, [], ◌∷◌, Option, Some, None}
 use Rattle.ll1_grammar.specs.Rule.{Kinds}
-use Rattle.ll1_grammar.specs.Readers.{Reader, pure, ◌>>=◌, ◌>>◌, on, on_any, all_onto}
+use Rattle.ll1_grammar.specs.Readers.{Reader, pure, ◌>>=◌, ◌>>◌, on, on_any}
 use Rattle.design_lex.specs.declared.token.Token.{Token}
 use Rattle.design_grammar.specs.declared.kind.Kind.{Kind}
 use Rattle.design_grammar.specs.declared.kind.Kind.TheVariants.{Semicolon, Colon, Comma, Dot, Equals, OpenParenthesis, CloseParenthesis, OpenBracket, CloseBracket, Request, As, Inst, Chan, Drive, Stage, Buffer, Fifo, Map, Scan, Fork, Join, AsFifo, AsVr}
 use Rattle.design_grammar.specs.Kinds.{code, names}
 use Rattle.design_grammar.specs.Grammar.{expect, begin, count}
 use Rattle.design_grammar.specs.Rules.{designs}
+use Rattle.design_grammar.specs.Lists.{items_onto, after_comma}
 use Rattle.channel_types.specs.TypeGrammar.{Found}
 use Rattle.design_tree.specs.declared.leaves.Name.{Name}
 use Rattle.design_tree.specs.declared.leaves.Number.{Number}
@@ -154,13 +155,9 @@ binding = do
   source ← reference
   pure (record { port = port; source = source })
 
--- one more after a comma
-unfoldable pub one_more_binding : List Binding → Reader Token (List Binding)
-one_more_binding front = expect Comma >> (binding >>= λ b. pure (front ++ b ∷ []))
-
 -- the first and all those after commas
 abbrev pub more_bindings : Binding → Reader Token (List Binding)
-more_bindings b = all_onto designs (code Comma ∷ []) one_more_binding (b ∷ [])
+more_bindings b = items_onto (code Comma ∷ []) (after_comma binding) (b ∷ [])
 
 unfoldable pub listed_bindings : Reader Token (List Binding)
 listed_bindings = binding >>= more_bindings
@@ -180,13 +177,9 @@ instance = do
   expect Semicolon
   pure (S.Instance at i m bs)
 
--- one more channel's name after a comma
-unfoldable pub one_more_name : List Name → Reader Token (List Name)
-one_more_name front = expect Comma >> (next_name >>= λ n. pure (front ++ n ∷ []))
-
--- the first and all those after commas
+-- the first channel's name and all those after commas
 abbrev pub more_names : Name → Reader Token (List Name)
-more_names n = all_onto designs (code Comma ∷ []) one_more_name (n ∷ [])
+more_names n = items_onto (code Comma ∷ []) (after_comma next_name) (n ∷ [])
 
 unfoldable pub drive : Reader Token Statement
 drive = do

@@ -1,29 +1,27 @@
--- The steps of the readers: which way a test of the next token goes, and the loops over names and over bindings.
-use Rattle.std.proofs.Common.{◌≡◌, ℕ, ◌<◌, ◌==◌, true, false, List, [], ◌∷◌, ◌++◌, length, None, Ok, refl, sym, ap, ◌∙◌}
+-- The steps of the readers: which way a test of the next token goes, and the lists of names and of bindings.
+use Rattle.std.proofs.Common.{◌≡◌, true, false, List, [], None, Ok, refl, sym, ap, ◌∙◌}
 use Rattle.ll1_grammar.specs.Lexemes.{Lexemes}
 use Rattle.ll1_grammar.specs.Rule.{◌⟫◌}
-use Rattle.ll1_grammar.specs.Kinds.{among, second, first_token}
+use Rattle.ll1_grammar.specs.Kinds.{among, first_token}
 use Rattle.ll1_grammar.specs.Among.{by_true, by_false}
-use Rattle.ll1_grammar.specs.WholeTexts.{front_shorter}
 use Rattle.ll1_grammar.specs.Readers.{Reader}
 use Rattle.design_lex.specs.Tokens as lex
 use Rattle.design_lex.specs.declared.token.Token.{Token}
 use Rattle.design_grammar.specs.declared.kind.Kind.TheVariants.{Comma, Dot, OpenBracket, Request, Inst, Chan, Stage, Buffer, Fifo, Map, Fork, Join, AsFifo, AsVr}
 use Rattle.design_grammar.specs.Kinds.{code, names, word_kind}
 use Rattle.design_grammar.specs.Grammar.{kind_code}
-use Rattle.design_grammar.specs.TokenSteps.{first_is}
-use Rattle.design_grammar.specs.Rules.{designs, token, a_name, bound_rule}
+use Rattle.design_grammar.specs.Rules.{token, a_name, bound_rule}
+use Rattle.design_grammar.specs.Lists.{Shortens, after_comma, item_shorter}
 use Rattle.channel_types.specs.TypeGrammar.{Found, type_check}
 use Rattle.design_types.specs.TypeLaw.{env, readable}
 use Rattle.design_tree.specs.declared.leaves.Name.{Name}
 use Rattle.design_tree.specs.declared.leaves.Reference.TheVariants as R
 use Rattle.design_tree.specs.declared.expression.Expression.{Expression}
 use Rattle.design_tree.specs.declared.statements.Binding.{Binding}
-use Rattle.design_expressions.specs.NextToken.{IsOther, is_other, comes, comes_not}
-use Rattle.design_expressions.specs.ExpressionValues.{name_in}
-use Rattle.design_statements.specs.StatementValues.{binding_in}
-use Rattle.design_statements.specs.StatementReading.{optional_index, member_or_channel, scan, wide_operation, sized_operation, operation, one_more_name, one_more_binding, listed_bindings, bindings, drive, statement}
-use Rattle.design_statements.specs.StatementLaw.{one_more_name_implements, one_more_binding_implements}
+use Rattle.design_grammar.specs.NextToken.{IsOther, is_other, comes, comes_not}
+use Rattle.design_expressions.specs.ExpressionReading.{next_name}
+use Rattle.design_statements.specs.StatementReading.{optional_index, member_or_channel, scan, wide_operation, sized_operation, operation, binding, listed_bindings, bindings, drive, statement}
+use Rattle.design_statements.specs.StatementLaw.{other_name_implements, other_binding_implements}
 
 -- ---- where no token of the kinds that are reported comes, the last of the readers reads
 
@@ -61,18 +59,14 @@ module _ (inner : Reader Token Found) (formula : Reader Token Expression) where
   unfolding statement
   drive_read ts a b c = by_false _ _ _ (is_other (code Request) ts a) ∙ (by_false _ _ _ (is_other (code Inst) ts b) ∙ by_false _ _ _ (is_other (code Chan) ts c))
 
--- ---- loops
+-- ---- lists
 
--- one more name takes lexemes away, with any readers of types and expressions: none is called
-pub one_more_name_shorter : (front : List Name) (ts : Lexemes Token) (u : List Name) (us : Lexemes Token) → one_more_name front ts ≡ Ok (u, us) → length us < length ts
+-- a name after its comma takes lexemes away, with any readers of types and expressions: none is called
+pub other_name_shorter : Shortens (after_comma next_name)
 unfolding word_kind
-one_more_name_shorter front ts u us e =
-    front_shorter designs (type_check 0) _ _ (env 0) (readable 0) (token Comma ⟫ a_name) refl (λ w. front ++ name_in (second w) ∷ []) (one_more_name front)
-    (one_more_name_implements (type_check 0) (env 0) front) refl ts u us e
+other_name_shorter = item_shorter (type_check 0) (env 0) _ _ (readable 0) (token Comma ⟫ a_name) refl (other_name_implements (type_check 0) (env 0)) refl
 
--- and so does one more binding
-pub one_more_binding_shorter : (front : List Binding) (ts : Lexemes Token) (u : List Binding) (us : Lexemes Token) → one_more_binding front ts ≡ Ok (u, us) → length us < length ts
+-- and so does a binding
+pub other_binding_shorter : Shortens (after_comma binding)
 unfolding word_kind
-one_more_binding_shorter front ts u us e =
-    front_shorter designs (type_check 0) _ _ (env 0) (readable 0) (token Comma ⟫ bound_rule) refl (λ w. front ++ binding_in (second w) ∷ []) (one_more_binding front)
-    (one_more_binding_implements (type_check 0) (env 0) front) refl ts u us e
+other_binding_shorter = item_shorter (type_check 0) (env 0) _ _ (readable 0) (token Comma ⟫ bound_rule) refl (other_binding_implements (type_check 0) (env 0)) refl

@@ -1,11 +1,7 @@
 -- The laws of the reader of statements: what it reads are the texts of the grammar's rule within the limits.
-use Rattle.std.specs.Prelude.{◌≡◌, ℕ, true, [], Ok, Err, refl}
-use Rattle.ll1_grammar.specs.Lexemes.{Lexemes}
+use Rattle.std.specs.Prelude.{◌≡◌, ℕ, true, [], refl}
 use Rattle.ll1_grammar.specs.Rule.{Tree}
-use Rattle.ll1_grammar.specs.declared.refusal.TokenRefusal.{TokenRefusal}
-use Rattle.ll1_grammar.specs.Texts.{StopsAt}
 use Rattle.ll1_grammar.specs.WithoutLimits.{no_check}
-use Rattle.ll1_grammar.specs.WholeTexts.{IsFrontOf, front_found, front_only, front_refused}
 use Rattle.ll1_grammar.specs.Bridge.{Implements}
 use Rattle.ll1_grammar.specs.Kinds.{first_set, is_ll1}
 use Rattle.design_lex.specs.declared.token.Token.{Token}
@@ -19,6 +15,7 @@ use Rattle.design_expressions.specs.declared.limits.TheConstants.{OPEN_EXPRESSIO
 use Rattle.design_expressions.specs.ExpressionValues.{expression_of}
 use Rattle.design_expressions.specs.ExpressionReading.{expression_at}
 use Rattle.design_expressions.specs.ExpressionTrees.{ExpressionTree, ExpressionBreak, expression_env, expression_readable}
+use Rattle.design_expressions.specs.WithinLimits.{AreFound, AreRead, AreRefused, are_found, are_read, are_refused}
 use Rattle.design_expressions.specs.ExpressionLaw.{type_within_implements, expression_implements}
 use Rattle.design_statements.specs.StatementValues.{statement_in}
 use Rattle.design_statements.specs.StatementReading.{statement_starts, statement_at}
@@ -34,30 +31,19 @@ statement_at_implements levels =
     statement_implements no_check (expression_env levels) (ExpressionTree levels) (ExpressionBreak levels) (expression_readable levels no_check) (type_at OPEN_TYPES) (type_of OPEN_TYPES) (expression_at levels) (expression_of levels)
     (type_within_implements levels no_check) (expression_implements levels no_check)
 
--- A text of a statement stands first, as long as it goes, and it is this statement: its tree is one of the grammar, all of
--- whose types are good, with at most so many types and expressions inside one another as the limits allow.
-abbrev pub IsStatementFirst : Lexemes Token → Statement → Lexemes Token → Type 0
-IsStatementFirst = IsFrontOf designs no_check (ExpressionTree OPEN_EXPRESSIONS) statement_rule (statement_of OPEN_EXPRESSIONS)
-
--- The refusal is at the first token with which no statement goes on, or at which a limit is broken.
-abbrev pub StopsToBeStatement : Lexemes Token → TokenRefusal → Type 0
-StopsToBeStatement = StopsAt designs no_check (ExpressionBreak OPEN_EXPRESSIONS) statement_rule
-
 -- A statement begins with these kinds of tokens, and with no others.
 abbrev pub StartsKnown : Type 0
 StartsKnown = first_set designs statement_rule ≡ statement_starts
 
--- What is read is the text of a statement,
+-- What is read is the text of a statement, each of these texts is read, and all else is refused where it stops to be one.
 abbrev pub StatementsFound : Type 0
-StatementsFound = (ts : Lexemes Token) (statement : Statement) (rest : Lexemes Token) → statement_at OPEN_TYPES OPEN_EXPRESSIONS ts ≡ Ok (statement, rest) → IsStatementFirst ts statement rest
+StatementsFound = AreFound statement_rule (statement_of OPEN_EXPRESSIONS) (statement_at OPEN_TYPES OPEN_EXPRESSIONS)
 
--- each of these texts is read,
 abbrev pub StatementsRead : Type 0
-StatementsRead = (ts : Lexemes Token) (statement : Statement) (rest : Lexemes Token) → IsStatementFirst ts statement rest → statement_at OPEN_TYPES OPEN_EXPRESSIONS ts ≡ Ok (statement, rest)
+StatementsRead = AreRead statement_rule (statement_of OPEN_EXPRESSIONS) (statement_at OPEN_TYPES OPEN_EXPRESSIONS)
 
--- and all else is refused where it stops to be one.
 abbrev pub OthersRefused : Type 0
-OthersRefused = (ts : Lexemes Token) (refusal : TokenRefusal) → statement_at OPEN_TYPES OPEN_EXPRESSIONS ts ≡ Err refusal → StopsToBeStatement ts refusal
+OthersRefused = AreRefused statement_rule (statement_of OPEN_EXPRESSIONS) (statement_at OPEN_TYPES OPEN_EXPRESSIONS)
 
 -- one token decides which way the reader goes
 pub statements_decided : is_ll1 designs statement_rule ≡ true
@@ -65,16 +51,10 @@ unfolding word_kind
 statements_decided = refl
 
 pub statements_found : StatementsFound
-statements_found =
-    front_found designs no_check (ExpressionTree OPEN_EXPRESSIONS) (ExpressionBreak OPEN_EXPRESSIONS) (expression_env OPEN_EXPRESSIONS) (expression_readable OPEN_EXPRESSIONS no_check) statement_rule statements_decided
-    (statement_of OPEN_EXPRESSIONS) (statement_at OPEN_TYPES OPEN_EXPRESSIONS) (statement_at_implements OPEN_EXPRESSIONS)
+statements_found = are_found statement_rule (statement_of OPEN_EXPRESSIONS) (statement_at OPEN_TYPES OPEN_EXPRESSIONS) statements_decided (statement_at_implements OPEN_EXPRESSIONS)
 
 pub statements_read : StatementsRead
-statements_read =
-    front_only designs no_check (ExpressionTree OPEN_EXPRESSIONS) (ExpressionBreak OPEN_EXPRESSIONS) (expression_env OPEN_EXPRESSIONS) (expression_readable OPEN_EXPRESSIONS no_check) statement_rule statements_decided
-    (statement_of OPEN_EXPRESSIONS) (statement_at OPEN_TYPES OPEN_EXPRESSIONS) (statement_at_implements OPEN_EXPRESSIONS)
+statements_read = are_read statement_rule (statement_of OPEN_EXPRESSIONS) (statement_at OPEN_TYPES OPEN_EXPRESSIONS) statements_decided (statement_at_implements OPEN_EXPRESSIONS)
 
 pub others_refused : OthersRefused
-others_refused =
-    front_refused designs no_check (ExpressionTree OPEN_EXPRESSIONS) (ExpressionBreak OPEN_EXPRESSIONS) (expression_env OPEN_EXPRESSIONS) (expression_readable OPEN_EXPRESSIONS no_check) statement_rule statements_decided
-    (statement_of OPEN_EXPRESSIONS) (statement_at OPEN_TYPES OPEN_EXPRESSIONS) (statement_at_implements OPEN_EXPRESSIONS)
+others_refused = are_refused statement_rule (statement_of OPEN_EXPRESSIONS) (statement_at OPEN_TYPES OPEN_EXPRESSIONS) statements_decided (statement_at_implements OPEN_EXPRESSIONS)

@@ -1,5 +1,4 @@
 //! The readers of operations, which make channels from others.
-ghost use Rattle.std.specs.Prelude.{◌≡◌};
 ghost use Rattle.design_grammar.specs.Grammar.{AnswersAt, StandsAt};
 ghost use Rattle.channel_types.specs.declared.limits.TheConstants.{OPEN_TYPES};
 ghost use Rattle.design_expressions.specs.declared.limits.TheConstants.{OPEN_EXPRESSIONS};

@@ -1,5 +1,4 @@
 //! The readers of application ids, and of what statements refer to.
-ghost use Rattle.std.specs.Prelude.{◌≡◌};
 ghost use Rattle.design_grammar.specs.Grammar.{AnswersAt, StandsAt};
 ghost use Rattle.design_statements.specs.StatementReading as spec;
 

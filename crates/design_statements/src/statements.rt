@@ -1,9 +1,10 @@
 //! The readers of statements.
-ghost use Rattle.std.specs.Prelude.{◌≡◌};
-ghost use Rattle.esi_base.specs.Answers.{ReadsAs};
+ghost use Rattle.std.specs.Prelude.{◌≡◌, [], ◌∷◌};
 ghost use Rattle.ll1_grammar.specs.Kinds.{among};
 ghost use Rattle.design_grammar.specs.Kinds as kinds;
+ghost use Rattle.design_grammar.specs.declared.kind.Kind.TheVariants.{Comma};
 ghost use Rattle.design_grammar.specs.Grammar.{AnswersAt, StandsAt};
+ghost use Rattle.design_grammar.specs.Lists.{after_comma};
 ghost use Rattle.channel_types.specs.declared.limits.TheConstants.{OPEN_TYPES};
 ghost use Rattle.design_expressions.specs.declared.limits.TheConstants.{OPEN_EXPRESSIONS};
 ghost use Rattle.design_types.specs.TypeReading.{type_at};
@@ -15,7 +16,7 @@ use crate::references::{next_id, next_reference};
 use design_expressions::next_name;
 use design_grammar::kind::is_name;
 use design_grammar::reading::{begin, expect};
-use design_grammar::{Kind, TokenStop, is_same, kind_of};
+use design_grammar::{Kind, Listed, TokenStop, is_same, items_after, kind_of};
 use design_lex::Cursor;
 use design_tree::{Binding, Name, Statement};
 use esi_base::List;
@@ -54,37 +55,31 @@ fn next_binding(cursor: &mut Cursor<'_>, alloc: Global) -> Result<Binding, Token
     Ok(Binding { port, source })
 }
 
-/// One more binding, after a comma.
-#[tactic(auto, unfolding(crate::specs::StatementReading::one_more_binding))]
-fn one_more_binding(
-    cursor: &mut Cursor<'_>,
-    alloc: Global,
-    bindings: &mut List<Binding>,
-) -> Result<(), TokenStop>
-    ensures reads { ReadsAs (λ _. bindings.new) (spec.one_more_binding bindings.old cursor.old) result cursor.new }
-    ensures stands { StandsAt result cursor.new }
-{
-    expect(cursor, Kind::Comma)?;
-    let binding = next_binding(cursor, alloc)?;
-    bindings.add(binding)?;
-    Ok(())
-}
+/// The list of the bindings after the first one, each after a comma.
+struct OtherBindings;
 
-/// All bindings, of which the first was read already.
-fn more_bindings(
-    cursor: &mut Cursor<'_>,
-    alloc: Global,
-    first: Binding,
-) -> Result<List<Binding>, TokenStop>
-    ensures reads { AnswersAt (spec.more_bindings first cursor.old) result cursor.new }
-    ensures stands { StandsAt result cursor.new }
-{
-    let mut bindings = List::new(alloc);
-    bindings.add(first)?;
-    while is_same(kind_of(cursor.peek()), Kind::Comma) {
-        one_more_binding(cursor, alloc, &mut bindings)?;
+impl Listed for OtherBindings {
+    ghost use Rattle.std.specs.Prelude.{refl};
+    ghost use Rattle.design_statements.specs.StatementSteps.{other_binding_shorter};
+
+    type Item = Binding;
+
+    ghost reader = { after_comma spec.binding };
+
+    ghost starts = { kinds.code Comma ∷ [] };
+
+    fn begins(kind: Kind) -> bool {
+        matches!(kind, Kind::Comma)
     }
-    Ok(bindings)
+
+    fn next(cursor: &mut Cursor<'_>, alloc: Global) -> Result<Binding, TokenStop> {
+        expect(cursor, Kind::Comma)?;
+        next_binding(cursor, alloc)
+    }
+
+    ghost shorter = { other_binding_shorter };
+
+    ghost ends = { refl };
 }
 
 /// One binding or more, with commas between them.
@@ -94,7 +89,7 @@ fn listed_bindings(cursor: &mut Cursor<'_>, alloc: Global) -> Result<List<Bindin
     ensures stands { StandsAt result cursor.new }
 {
     let first = next_binding(cursor, alloc)?;
-    more_bindings(cursor, alloc, first)
+    items_after::<OtherBindings>(cursor, alloc, first)
 }
 
 /// The bindings of an instance, maybe none.
@@ -132,33 +127,32 @@ fn instance(cursor: &mut Cursor<'_>, alloc: Global) -> Result<Statement, TokenSt
     })
 }
 
-/// One more channel's name, after a comma.
-#[tactic(auto, unfolding(crate::specs::StatementReading::one_more_name))]
-fn one_more_name(
-    cursor: &mut Cursor<'_>,
-    alloc: Global,
-    names: &mut List<Name>,
-) -> Result<(), TokenStop>
-    ensures reads { ReadsAs (λ _. names.new) (spec.one_more_name names.old cursor.old) result cursor.new }
-    ensures stands { StandsAt result cursor.new }
-{
-    expect(cursor, Kind::Comma)?;
-    let name = next_name(cursor, alloc)?;
-    names.add(name)?;
-    Ok(())
-}
+/// The list of the names of channels after the first one, each after a comma.
+struct OtherNames;
 
-/// All names of channels, of which the first was read already.
-fn more_names(cursor: &mut Cursor<'_>, alloc: Global, first: Name) -> Result<List<Name>, TokenStop>
-    ensures reads { AnswersAt (spec.more_names first cursor.old) result cursor.new }
-    ensures stands { StandsAt result cursor.new }
-{
-    let mut names = List::new(alloc);
-    names.add(first)?;
-    while is_same(kind_of(cursor.peek()), Kind::Comma) {
-        one_more_name(cursor, alloc, &mut names)?;
+impl Listed for OtherNames {
+    ghost use Rattle.std.specs.Prelude.{refl};
+    ghost use Rattle.design_expressions.specs.ExpressionReading.{next_name};
+    ghost use Rattle.design_statements.specs.StatementSteps.{other_name_shorter};
+
+    type Item = Name;
+
+    ghost reader = { after_comma next_name };
+
+    ghost starts = { kinds.code Comma ∷ [] };
+
+    fn begins(kind: Kind) -> bool {
+        matches!(kind, Kind::Comma)
     }
-    Ok(names)
+
+    fn next(cursor: &mut Cursor<'_>, alloc: Global) -> Result<Name, TokenStop> {
+        expect(cursor, Kind::Comma)?;
+        next_name(cursor, alloc)
+    }
+
+    ghost shorter = { other_name_shorter };
+
+    ghost ends = { refl };
 }
 
 /// `chan`: names for the channels that an operation makes.
@@ -169,7 +163,7 @@ fn channels(cursor: &mut Cursor<'_>, alloc: Global) -> Result<Statement, TokenSt
 {
     let at = begin(cursor, Kind::Chan)?;
     let first = next_name(cursor, alloc)?;
-    let names = more_names(cursor, alloc, first)?;
+    let names = items_after::<OtherNames>(cursor, alloc, first)?;
     expect(cursor, Kind::Equals)?;
     let operation = next_operation(cursor, alloc)?;
     expect(cursor, Kind::Semicolon)?;

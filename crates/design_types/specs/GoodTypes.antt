@@ -22,7 +22,7 @@ use Rattle.design_grammar.specs.Grammar.{kind_code, word_in, number_in, width_in
 use Rattle.design_grammar.specs.Names.{IsName, name_token}
 use Rattle.channel_types.specs.declared.esi_type.EsiType.{EsiType}
 use Rattle.channel_types.specs.declared.esi_type.EsiType.TheVariants as V
-use Rattle.channel_types.specs.declared.esi_type.EsiType.TheVariants.{outs-Bits, outs-Void, outs-Struct, outs-Array}
+use Rattle.channel_types.specs.declared.esi_type.EsiType.TheVariants.{outs-Bits, outs-Struct, outs-Array}
 use Rattle.channel_types.specs.declared.esi_type.EsiType.TheOpen.{EsiType-F}
 use Rattle.channel_types.specs.declared.esi_type.EsiType.TheViews.{out-EsiType}
 use Rattle.channel_types.specs.declared.esi_type.Field.{Field}
@@ -36,7 +36,7 @@ use Rattle.channel_types.specs.TypeAnswers.{IsTypeTree, IsTypeAt, IsTypeText}
 use Rattle.esi_base.specs.declared.stop.Stop.{Stop}
 use Rattle.design_grammar.specs.Grammar.{AnswersAt}
 use Rattle.design_types.specs.TypeReading.{type_at}
-use Rattle.design_types.specs.TypeMeaning.{was_read}
+use Rattle.design_types.specs.TypeMeaning.{call_in, type_found}
 
 -- the level of a type that breaks no rule, with names for its fields
 level_good : (ty : EsiType) (level : EsiType-F EsiType Field) → out-EsiType ty ≡ level → check_of ty ≡ 0 → All IsName (level_names level) → IsLevel level
@@ -132,6 +132,6 @@ text_good text ty o = subst IsGoodType (sym o.is) (good_type (type_of OPEN_TYPES
 -- and so is what was read from the lexemes of a text
 pub read_good : (ts : Lexemes Token) (result : Result Found (Stop TokenRefusal)) (new : Lexemes Token) → AnswersAt (type_at OPEN_TYPES ts) result new → AreSpelled ts → IfOk result (λ found. IsGoodType found.0)
 read_good ts (Ok a) new e spelled =
-    let o = was_read ts a new e in
-    subst (λ z. IsGoodType z.0) (sym o.is) (good_type (type_of OPEN_TYPES o.tree).0 (tree_good OPEN_TYPES o.tree o.fits (spelled_first (spell o.tree) new (subst AreSpelled o.parts spelled))))
+    let o = type_found ts a new e in
+    subst (λ z. IsGoodType z.0) (sym o.is) (good_type (type_of OPEN_TYPES o.tree).0 (tree_good OPEN_TYPES o.tree (call_in OPEN_TYPES o.tree o.fits) (spelled_first (spell o.tree) new (subst AreSpelled o.parts spelled))))
 read_good ts (Err halt) new e spelled = tt

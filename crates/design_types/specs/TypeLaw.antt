@@ -1,19 +1,19 @@
 -- The readers of types read exactly the grammar.
-use Rattle.std.proofs.Common.{◌≡◌, ℕ, zero, suc, Bool, true, false, if◌then◌else◌, List, [], ◌∷◌, ◌++◌, Ok, Err, refl, sym, ap, ◌∙◌}
+use Rattle.std.proofs.Common.{◌≡◌, ℕ, zero, suc, Bool, true, false, if◌then◌else◌, [], ◌∷◌, Err, refl, sym, ap, ◌∙◌}
 use Rattle.ll1_grammar.specs.Lexemes.{Lexemes, first_place}
 use Rattle.ll1_grammar.specs.Rule.{Kinds, Rule, Tree, ◌⟫◌}
 use Rattle.ll1_grammar.specs.Rule.Rule.{star}
 use Rattle.ll1_grammar.specs.Rule.Tree.{node}
-use Rattle.ll1_grammar.specs.Kinds.{among, first, second, inside, first_kind, first_token}
-use Rattle.ll1_grammar.specs.Parse.{Answer, Parser, parse}
+use Rattle.ll1_grammar.specs.Kinds.{among, second, inside, first_kind, first_token}
+use Rattle.ll1_grammar.specs.Parse.{Parser, parse}
 use Rattle.ll1_grammar.specs.Parse.ParseStop.{unwanted, broken}
 use Rattle.ll1_grammar.specs.Trees.{Checks}
 use Rattle.ll1_grammar.specs.Nested.{NoTree, TooDeep, no_level}
 use Rattle.ll1_grammar.specs.Nesting.{nesting, NestingTree, NestingBreak}
 use Rattle.ll1_grammar.specs.NestingLaws.{all_own, no_base, nesting_readable}
-use Rattle.ll1_grammar.specs.WholeTexts.{Readable, begins_alike, first_there}
+use Rattle.ll1_grammar.specs.WholeTexts.{Readable, first_there}
 use Rattle.ll1_grammar.specs.Readers.{Reader, checking, refused}
-use Rattle.ll1_grammar.specs.Bridge.{Implements, AreReported, read_of, leaf_by, items, through, through_items, map_implements, seq_implements, alt_implements, star_implements, checked_implements, read_of_wrap}
+use Rattle.ll1_grammar.specs.Bridge.{Implements, AreReported, read_of, leaf_by, items, map_implements, seq_implements, alt_implements, checked_implements, read_of_wrap}
 use Rattle.design_lex.specs.declared.token.Token.{Token}
 use Rattle.design_grammar.specs.declared.kind.Kind.TheVariants.{TypeWord, Less, Greater, Colon, Comma, Void, Struct, Array}
 use Rattle.design_grammar.specs.RuleNumbers.{rule_number}
@@ -23,10 +23,11 @@ use Rattle.design_grammar.specs.Grammar.{word_in, number_in, width_in}
 use Rattle.channel_types.specs.declared.esi_type.EsiType.TheVariants as V
 use Rattle.channel_types.specs.declared.esi_type.Field.{Field}
 use Rattle.design_grammar.specs.Decided.{designs_calls}
-use Rattle.design_grammar.specs.Implementing.{reported_alike, countless, behind_countless, expect_implements, name_implements, count_implements, type_word_implements}
+use Rattle.design_grammar.specs.Implementing.{reported_alike, countless, behind_countless, expect_implements, name_implements, count_implements, type_word_implements, then_implements}
 use Rattle.design_grammar.specs.Rules.{designs, token, a_type, field_rule, struct_rule, array_rule, level_rule, type_rule, type_first_set}
+use Rattle.design_grammar.specs.Lists.{items_implements}
 use Rattle.channel_types.specs.TypeGrammar.{check_of, end_in, field_in, struct_in, array_in, level_in, type_of, type_check}
-use Rattle.design_types.specs.TypeReading.{bits, void, field, one_more, more_fields, struct_type, array_type, level, too_deep, type_at}
+use Rattle.design_types.specs.TypeReading.{bits, void, field, more_fields, struct_type, array_type, level, too_deep, type_at}
 
 -- the readers of the rules that are called, with so many levels still to be opened
 abbrev pub env : ℕ → ℕ → Parser Token
@@ -44,14 +45,6 @@ starts_reported : AreReported designs (code TypeWord ∷ []) type_first_set
 unfolding unwanted_rule
 starts_reported = reported_alike (code TypeWord ∷ []) type_first_set (λ k. refl)
 
--- the same with an equal value
-reading_as : {A : Type 0} (d : ℕ) {read : Reader Token A} {f h : Tree Token → A} {r : Rule} {also : Kinds} → Reading d read f r also → ((t : Tree Token) → f t ≡ h t) → Reading d read h r also
-reading_as {A} d {read} {f} {h} {r} {also} e same = record { at = λ ts. e.at ts ∙ of (parse designs (type_check d) (env d) r also ts) }
-  where
-    of : (x : Answer Token) → read_of designs f x ≡ read_of designs h x
-    of (Ok x) = ap (λ v. Ok (v, x.1)) (same x.0)
-    of (Err halt) = refl
-
 module _ (d : ℕ) where
   bits_implements : Reading d bits (leaf_by designs (λ x. (V.Bits (width_in x.1).0 (width_in x.1).1, x.0.1))) (token TypeWord) []
   unfolding bits
@@ -63,42 +56,26 @@ module _ (d : ℕ) where
 
   -- where the readers of the types in it are those of their rule
   module _ (calls : Reading d (type_at d) (type_of d) a_type []) where
-    field_implements : Reading d (field (type_at d)) (field_in (type_of d)) field_rule []
+    pub field_implements : Reading d (field (type_at d)) (field_in (type_of d)) field_rule []
     unfolding field
     field_implements =
         seq_implements designs (type_check d) (env d) _ _ (name_implements (type_check d) (env d)) (λ t. seq_implements designs (type_check d) (env d) _ _ (expect_implements (type_check d) (env d) Colon [] refl refl refl)
         (λ u. map_implements designs (type_check d) (env d) (λ found. record { name = leaf_by designs (λ x. word_in x.1) t; ty = found.0 }) calls))
 
-    pub one_more_implements : (front : List Field) → Reading d (one_more (type_at d) front) (λ w. front ++ field_in (type_of d) (second w) ∷ []) (token Comma ⟫ field_rule) []
-    unfolding one_more
-    one_more_implements front = seq_implements designs (type_check d) (env d) _ _ (expect_implements (type_check d) (env d) Comma [] refl refl refl) (λ t. map_implements designs (type_check d) (env d) (λ f. front ++ f ∷ []) field_implements)
-
-    more_fields_implements : (f : Field) → Reading d (more_fields (type_at d) f) (λ t. through (λ front w. front ++ field_in (type_of d) (second w) ∷ []) (f ∷ []) t) (star (token Comma ⟫ field_rule)) []
+    more_fields_implements : (f : Field) → Reading d (more_fields (type_at d) f) (λ t. f ∷ items (λ w. field_in (type_of d) (second w)) t) (star (token Comma ⟫ field_rule)) []
     unfolding word_kind
-    more_fields_implements f = star_implements designs (type_check d) (env d) (code Comma ∷ []) (f ∷ []) [] refl
-        (begins_alike designs (type_check d) _ _ (env d) (readable d) (token Comma ⟫ field_rule) refl) one_more_implements
+    more_fields_implements f =
+        items_implements (type_check d) (env d) _ _ (readable d) (token Comma ⟫ field_rule) refl (then_implements (type_check d) (env d) Comma [] refl refl refl field_implements) (code Comma ∷ []) refl (f ∷ []) []
 
-    struct_value : (a : Field) (t : Tree Token) → through (λ front w. front ++ field_in (type_of d) (second w) ∷ []) (a ∷ []) t ≡ a ∷ items (λ w. field_in (type_of d) (second w)) t
-    struct_value a t = through_items (λ w. field_in (type_of d) (second w)) (a ∷ []) t
-
-    -- the fields, one added to the others
-    struct_by : (also : Kinds) → countless also ≡ true
-        → Reading d (struct_type (type_at d))
-        (λ t. let u : Tree Token = second (second t) in
-        let front : List Field = through (λ front w. front ++ field_in (type_of d) (second w) ∷ []) (field_in (type_of d) (first u) ∷ []) (first (second u)) in
-        (V.Struct front, end_in (second (second u)))) struct_rule also
+    struct_implements : (also : Kinds) → countless also ≡ true → Reading d (struct_type (type_at d)) (λ t. struct_in (type_of d) (second (second t))) struct_rule also
     unfolding struct_type
-    struct_by also reported =
+    struct_implements also reported =
         seq_implements designs (type_check d) (env d) _ _ (expect_implements (type_check d) (env d) Struct also reported refl refl) (λ t1.
         seq_implements designs (type_check d) (env d) _ _ (expect_implements (type_check d) (env d) Less [] refl refl refl) (λ t2.
         seq_implements designs (type_check d) (env d) _ _ field_implements (λ t3.
         seq_implements designs (type_check d) (env d) _ _ (more_fields_implements (field_in (type_of d) t3)) (λ t4.
-        map_implements designs (type_check d) (env d) (λ e. (V.Struct (through (λ front w. front ++ field_in (type_of d) (second w) ∷ []) (field_in (type_of d) t3 ∷ []) t4), e))
+        map_implements designs (type_check d) (env d) (λ e. (V.Struct (field_in (type_of d) t3 ∷ items (λ w. field_in (type_of d) (second w)) t4), e))
         (expect_implements (type_check d) (env d) Greater _ (behind_countless (star (token Comma ⟫ field_rule)) t4 [] refl refl) refl refl)))))
-
-    struct_implements : (also : Kinds) → countless also ≡ true → Reading d (struct_type (type_at d)) (λ t. struct_in (type_of d) (second (second t))) struct_rule also
-    struct_implements also reported =
-        reading_as d (struct_by also reported) (λ t. let u : Tree Token = second (second t) in ap (λ fields. (V.Struct fields, end_in (second (second u)))) (struct_value (field_in (type_of d) (first u)) (first (second u))))
 
     array_implements : (also : Kinds) → countless also ≡ true → Reading d (array_type (type_at d)) (λ t. array_in (type_of d) (second (second t))) array_rule also
     unfolding array_type

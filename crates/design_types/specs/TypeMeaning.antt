@@ -1,9 +1,8 @@
 -- What the readers of types answer is what the grammar says of the text.
-use Rattle.std.proofs.Common.{◌≡◌, ◌++◌, ℕ, List, [], ◌∷◌, Result, Ok, Err, refl, sym, ap, ◌∙◌, subst}
+use Rattle.std.proofs.Common.{◌≡◌, ℕ, List, [], ◌∷◌, Result, Ok, Err, refl, sym, ap, ◌∙◌, subst}
 use Rattle.ll1_grammar.specs.Lexemes.{Lexemes}
 use Rattle.ll1_grammar.specs.Rule.{Tree}
 use Rattle.ll1_grammar.specs.Rule.Rule.{call}
-use Rattle.ll1_grammar.specs.Kinds.{spell}
 use Rattle.ll1_grammar.specs.declared.refusal.TokenRefusal.{TokenRefusal}
 use Rattle.ll1_grammar.specs.Trees.{Fits}
 use Rattle.ll1_grammar.specs.Trees.Fits.{fits_call}
@@ -36,7 +35,7 @@ use Rattle.design_types.specs.TypeLaw.{env, type_implements}
 all : (d : ℕ) → Readable designs no_check (NestingTree designs all_own type_check (no_level designs) NoTree (TooDeep designs) d) (TypeBreak d) (env d)
 all d = nesting_readable designs designs_calls all_own type_check (no_level designs) NoTree (TooDeep designs) (no_base designs designs_calls) d no_check
 
-call_in : (d : ℕ) (t : Tree Token) → Fits designs no_check (NestingTree designs all_own type_check (no_level designs) NoTree (TooDeep designs) d) (call 0) t → IsTypeTree d t
+pub call_in : (d : ℕ) (t : Tree Token) → Fits designs no_check (NestingTree designs all_own type_check (no_level designs) NoTree (TooDeep designs) d) (call 0) t → IsTypeTree d t
 call_in d t (fits_call h) = h
 
 -- no other token may stand after a whole type
@@ -44,23 +43,17 @@ none_reported : AreReported designs (code Nothing ∷ []) []
 unfolding unwanted
 none_reported = reported_alike (code Nothing ∷ []) [] (λ k. refl)
 
--- What was read from some lexemes is the type of a tree of which they are the first ones.
-pub record IsRead (ts : Lexemes Token) (a : Found) (rest : Lexemes Token) : Type 0 where
-  pub tree : Tree Token
-  pub fits : IsTypeTree OPEN_TYPES tree
-  pub parts : ts ≡ spell tree ++ rest
-  pub is : a ≡ type_of OPEN_TYPES tree
+-- What stands first, as long as it goes, is this type.
+abbrev pub IsTypeFirst : Lexemes Token → Found → Lexemes Token → Type 0
+IsTypeFirst = IsFrontOf designs no_check (NestingTree designs all_own type_check (no_level designs) NoTree (TooDeep designs) OPEN_TYPES) (call 0) (type_of OPEN_TYPES)
 
-pub was_read : (ts : Lexemes Token) (a : Found) (rest : Lexemes Token) → type_at OPEN_TYPES ts ≡ Ok (a, rest) → IsRead ts a rest
-was_read ts a rest e = of (front_found designs no_check _ (TypeBreak OPEN_TYPES) (env OPEN_TYPES) (all OPEN_TYPES) (call 0) refl (type_of OPEN_TYPES) (type_at OPEN_TYPES) (type_implements OPEN_TYPES no_check) ts a rest e)
-  where
-    of : IsFrontOf designs no_check (NestingTree designs all_own type_check (no_level designs) NoTree (TooDeep designs) OPEN_TYPES) (call 0) (type_of OPEN_TYPES) ts a rest → IsRead ts a rest
-    of o = record { tree = o.tree; fits = call_in OPEN_TYPES o.tree o.fits; parts = o.parts; is = o.is }
+pub type_found : (ts : Lexemes Token) (a : Found) (rest : Lexemes Token) → type_at OPEN_TYPES ts ≡ Ok (a, rest) → IsTypeFirst ts a rest
+type_found = front_found designs no_check _ (TypeBreak OPEN_TYPES) (env OPEN_TYPES) (all OPEN_TYPES) (call 0) refl (type_of OPEN_TYPES) (type_at OPEN_TYPES) (type_implements OPEN_TYPES no_check)
 
 -- What was read at an offset is the type that stands there, each such type is read, and all else is refused where it
 -- stops to be one.
 front_type_found : (text : List ℕ) (at : ℕ) (a : Found) (rest : Lexemes Token) → type_at OPEN_TYPES (tokens text at) ≡ Ok (a, rest) → IsTypeAt text at a
-front_type_found text at a rest e = let o = was_read (tokens text at) a rest e in record { tree = o.tree; rest = rest; fits = o.fits; parts = o.parts; is = o.is }
+front_type_found text at a rest e = let o = type_found (tokens text at) a rest e in record { tree = o.tree; rest = rest; fits = call_in OPEN_TYPES o.tree o.fits; parts = o.parts; is = o.is }
 
 front_type_only : (text : List ℕ) (at : ℕ) (a : Found) → (o : IsTypeAt text at a) → type_at OPEN_TYPES (tokens text at) ≡ Ok (a, o.rest)
 front_type_only text at a o =

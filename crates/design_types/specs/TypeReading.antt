@@ -1,9 +1,9 @@
 -- What the readers of types answer, as functions of the lexemes that are left.
-use Rattle.std.specs.Prelude.{ℕ, zero, suc, List, [], ◌∷◌, ◌++◌, Result, Ok, Err, if◌then◌else◌}
+use Rattle.std.specs.Prelude.{ℕ, zero, suc, List, [], ◌∷◌, Result, Ok, Err, if◌then◌else◌}
 use Rattle.ll1_grammar.specs.Lexemes.{Lexemes, first_place}
 use Rattle.ll1_grammar.specs.declared.refusal.TokenRefusal.{TokenRefusal}
 use Rattle.ll1_grammar.specs.Kinds.{among, first_kind}
-use Rattle.ll1_grammar.specs.Readers.{Read, Reader, read_to_end, refused, pure, ◌>>=◌, ◌>>◌, on, all_onto, checking}
+use Rattle.ll1_grammar.specs.Readers.{Read, Reader, read_to_end, refused, pure, ◌>>=◌, ◌>>◌, on, checking}
 use Rattle.design_lex.specs.declared.token.Token.{Token}
 use Rattle.design_grammar.specs.declared.kind.Kind.TheVariants.{Nothing, TypeWord, Less, Greater, Colon, Comma, Void, Struct, Array}
 use Rattle.design_grammar.specs.Kinds.{code}
@@ -18,6 +18,7 @@ use Rattle.channel_types.specs.declared.esi_type.EsiType.{EsiType}
 use Rattle.channel_types.specs.declared.limits.TheConstants.{OPEN_TYPES}
 use Rattle.channel_types.specs.TypeAnswers.{refusal_at}
 use Rattle.design_grammar.specs.Rules.{designs, type_first_set}
+use Rattle.design_grammar.specs.Lists.{items_onto, after_comma}
 use Rattle.channel_types.specs.TypeGrammar.{check_of, Found}
 
 -- a type word
@@ -36,13 +37,9 @@ module _ (inner : Reader Token Found) where
     found ← inner
     pure (record { name = n.0; ty = found.0 })
 
-  -- one more field after a comma
-  unfoldable pub one_more : List Field → Reader Token (List Field)
-  one_more front = expect Comma >> (field >>= λ f. pure (front ++ f ∷ []))
-
   -- the first field and all those after commas
   abbrev pub more_fields : Field → Reader Token (List Field)
-  more_fields f = all_onto designs (code Comma ∷ []) one_more (f ∷ [])
+  more_fields f = items_onto (code Comma ∷ []) (after_comma field) (f ∷ [])
 
   unfoldable pub struct_type : Reader Token Found
   struct_type = do

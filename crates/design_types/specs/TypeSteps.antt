@@ -1,11 +1,10 @@
 -- The steps of the readers: which one reads on, the loop over a struct's fields, and what is refused.
-use Rattle.std.proofs.Common.{◌≡◌, ℕ, zero, suc, ◌-◌, ◌<◌, ◌==◌, Bool, true, false, if◌then◌else◌, Option, Some, List, [], ◌∷◌, ◌++◌, length, Result, Ok, Err, refl, sym, ap, ◌∙◌, subst, arith}
+use Rattle.std.proofs.Common.{◌≡◌, ℕ, zero, suc, ◌-◌, ◌<◌, ◌==◌, Bool, true, false, if◌then◌else◌, Option, Some, List, [], ◌∷◌, length, Result, Ok, Err, refl, sym, ap, ◌∙◌, subst, arith}
 use Rattle.ll1_grammar.specs.Rule.{◌⟫◌}
-use Rattle.ll1_grammar.specs.Kinds.{among, second, first_kind}
+use Rattle.ll1_grammar.specs.Kinds.{among, first_kind}
 use Rattle.ll1_grammar.specs.Lexemes.{Lexemes, first_place}
 use Rattle.ll1_grammar.specs.declared.refusal.TokenRefusal.{TokenRefusal}
-use Rattle.ll1_grammar.specs.Among.{by_false, by_true}
-use Rattle.ll1_grammar.specs.WholeTexts.{front_shorter}
+use Rattle.ll1_grammar.specs.Among.{by_false}
 use Rattle.design_lex.specs.Tokens as lex
 use Rattle.design_lex.specs.declared.token.Token.{Token}
 use Rattle.design_grammar.specs.declared.kind.Kind.TheVariants.{TypeWord, Comma, Void, Struct}
@@ -16,39 +15,32 @@ use Rattle.design_grammar.specs.Grammar.{kind_code, token_grammar, StandsAt}
 use Rattle.design_grammar.specs.TokenSteps.{first_is, first_place_is}
 use Rattle.channel_types.specs.declared.esi_type.Field.{Field}
 use Rattle.design_grammar.specs.Rules.{designs, token, field_rule, type_first_set}
+use Rattle.design_grammar.specs.Implementing.{then_implements}
+use Rattle.design_grammar.specs.Lists.{one_more, after_comma, Shortens, one_more_shorter, item_shorter}
+use Rattle.design_grammar.specs.NextToken.{IsOther, is_other}
 use Rattle.channel_types.specs.declared.type_rule.TypeRule.{TypeRule}
 use Rattle.channel_types.specs.declared.type_rule.TypeRule.TheVariants.{WidthOutOfRange, RepeatedField}
 use Rattle.channel_types.specs.TypeRules.{rule_number, number_or_zero, broken_rule}
-use Rattle.channel_types.specs.TypeGrammar.{check_of, field_in, type_of, type_check, Found}
+use Rattle.channel_types.specs.TypeGrammar.{check_of, type_check, Found}
 use Rattle.esi_base.specs.declared.stop.Stop.{Stop}
 use Rattle.esi_base.specs.declared.stop.Stop.TheVariants.{Refused}
 use Rattle.ll1_grammar.specs.Readers.{Read, Reader, refused, and_then, checked_at}
 use Rattle.ll1_grammar.specs.Kinds.{first_token}
-use Rattle.design_types.specs.TypeReading.{one_more, too_deep, type_at, level, array_type}
-use Rattle.design_types.specs.TypeLaw.{env, readable, type_implements, one_more_implements}
+use Rattle.design_types.specs.TypeReading.{field, too_deep, type_at, level, array_type}
+use Rattle.design_types.specs.TypeLaw.{env, readable, type_implements, field_implements}
 
--- one more field takes lexemes away
-pub one_more_shorter : (d : ℕ) (front : List Field) (ts : Lexemes Token) (u : List Field) (us : Lexemes Token) → one_more (type_at d) front ts ≡ Ok (u, us) → length us < length ts
+-- a field after its comma takes lexemes away, and so does one more of them
+field_shorter : (d : ℕ) → Shortens (after_comma (field (type_at d)))
 unfolding word_kind
-one_more_shorter d front ts u us e =
-    front_shorter designs (type_check d) _ _ (env d) (readable d) (token Comma ⟫ field_rule) refl (λ w. front ++ field_in (type_of d) (second w) ∷ []) (one_more (type_at d) front)
-    (one_more_implements d (type_implements d (type_check d)) front) refl ts u us e
+field_shorter d = item_shorter (type_check d) (env d) _ _ (readable d) (token Comma ⟫ field_rule) refl (then_implements (type_check d) (env d) Comma [] refl refl refl (field_implements d (type_implements d (type_check d)))) refl
+
+pub one_more_field_shorter : (d : ℕ) (front : List Field) (ts : Lexemes Token) (u : List Field) (us : Lexemes Token) → one_more (after_comma (field (type_at d))) front ts ≡ Ok (u, us) → length us < length ts
+one_more_field_shorter d = one_more_shorter (after_comma (field (type_at d))) (field_shorter d)
 
 -- where no other type begins, an array is read
-pub level_array : (inner : Reader Token Found) (ts : Lexemes Token) → (kind_code (lex.first_token ts) == code TypeWord) ≡ false → (kind_code (lex.first_token ts) == code Void) ≡ false
-    → (kind_code (lex.first_token ts) == code Struct) ≡ false → level inner ts ≡ array_type inner ts
+pub level_array : (inner : Reader Token Found) (ts : Lexemes Token) → IsOther (code TypeWord) ts → IsOther (code Void) ts → IsOther (code Struct) ts → level inner ts ≡ array_type inner ts
 unfolding level
-level_array inner ts a b c = by_false _ _ _ (seen_by (code TypeWord) a) ∙ (by_false _ _ _ (seen_by (code Void) b) ∙ by_false _ _ _ (seen_by (code Struct) c))
-  where
-    seen_by : (k : ℕ) → (kind_code (lex.first_token ts) == k) ≡ false → (kind_code (first_token designs ts) == k) ≡ false
-    seen_by k e = ap (λ t. kind_code t == k) (first_is ts) ∙ e
-
--- whether one more field comes
-pub comma_is : (ts : Lexemes Token) → (kind_code (lex.first_token ts) == code Comma) ≡ true → among (code Comma ∷ []) (designs.kind (first_token designs ts)) ≡ true
-comma_is ts e = by_true _ _ _ (ap (λ t. kind_code t == code Comma) (first_is ts) ∙ e)
-
-pub no_comma_is : (ts : Lexemes Token) → (kind_code (lex.first_token ts) == code Comma) ≡ false → among (code Comma ∷ []) (designs.kind (first_token designs ts)) ≡ false
-no_comma_is ts e = by_false _ _ _ (ap (λ t. kind_code t == code Comma) (first_is ts) ∙ e)
+level_array inner ts a b c = by_false _ _ _ (is_other (code TypeWord) ts a) ∙ (by_false _ _ _ (is_other (code Void) ts b) ∙ by_false _ _ _ (is_other (code Struct) ts c))
 
 -- where no type begins, the token is refused as where only one of a type may stand
 pub too_deep_refused : (ts : Lexemes Token) → among type_first_set (kind_code (lex.first_token ts)) ≡ false → too_deep ts ≡ refused token_grammar (code TypeWord ∷ []) ts

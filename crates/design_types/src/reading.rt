@@ -5,6 +5,7 @@ ghost use Rattle.esi_base.specs.declared.stop.Stop.TheVariants.{Refused as stop_
 ghost use Rattle.ll1_grammar.specs.Kinds.{among};
 ghost use Rattle.design_grammar.specs.Grammar.{AnswersAt, StandsAt};
 ghost use Rattle.design_grammar.specs.Kinds as kinds;
+ghost use Rattle.design_grammar.specs.Lists.{one_more, after_comma};
 ghost use Rattle.design_grammar.specs.Rules.{type_first_set};
 ghost use Rattle.design_types.specs.TypeReading as spec;
 
@@ -120,14 +121,14 @@ fn field(cursor: &mut Cursor<'_>, alloc: Global, levels: u32) -> Result<Field, T
 
 /// One more field after a comma.
 #[cycle(a_type)]
-#[tactic(auto, unfolding(crate::specs::TypeReading::one_more))]
+#[tactic(auto, unfolding(design_grammar::specs::Lists::one_more))]
 fn one_more(
     cursor: &mut Cursor<'_>,
     alloc: Global,
     levels: u32,
     fields: &mut Items<Field>,
 ) -> Result<(), TokenStop>
-    ensures reads { ReadsAs (λ _. fields.new) (spec.one_more (spec.type_at levels) fields.old cursor.old) result cursor.new }
+    ensures reads { ReadsAs (λ _. fields.new) (one_more (after_comma (spec.field (spec.type_at levels))) fields.old cursor.old) result cursor.new }
     ensures stands { StandsAt result cursor.new }
 {
     expect(cursor, Kind::Comma)?;

@@ -1,38 +1,24 @@
 //! Random calls of a ledger, each compared with the plain sums over all calls so far.
 
 use crate::history::{Fault, History};
+use case_words::Numbers;
 use h2_flow::{FlowFault, Ledger};
 use std::alloc::{AllocError, Global};
 
 /// The streams of random calls are below this number.
 const STREAMS: u32 = 7;
 
-/// A seeded generator of numbers (the constants are Knuth's).
-#[derive(Drop)]
-struct Numbers {
-    state: u64,
-}
-
-impl Numbers {
-    /// The next number.
-    fn next(&mut self) -> u32 {
-        let product = self.state.wrapping_mul(6_364_136_223_846_793_005);
-        self.state = product.wrapping_add(1_442_695_040_888_963_407);
-        (self.state >> 32) as u32
-    }
-
-    /// A number of octets: often a small one, sometimes one near the greatest window.
-    fn octets(&mut self) -> u32 {
-        let kind = self.next();
-        let number = self.next();
-        match kind % 8 {
-            0 => 0,
-            1 => 65_535,
-            2 => 2_147_483_647 - number % 70_000,
-            3 => number % 2_147_483_648,
-            4 => number,
-            _ => number % 9_000,
-        }
+/// A number of octets: often a small one, sometimes one near the greatest window.
+fn octets_of(numbers: &mut Numbers) -> u32 {
+    let kind = numbers.next();
+    let number = numbers.next();
+    match kind % 8 {
+        0 => 0,
+        1 => 65_535,
+        2 => 2_147_483_647 - number % 70_000,
+        3 => number % 2_147_483_648,
+        4 => number,
+        _ => number % 9_000,
     }
 }
 
@@ -51,9 +37,7 @@ pub fn compared(alloc: Global, seed: u32, calls: u32) -> Result<String, AllocErr
         return Err(AllocError);
     };
     let mut history = History::new(alloc);
-    let mut numbers = Numbers {
-        state: u64::from(seed),
-    };
+    let mut numbers = Numbers::new(seed);
     let mut tally = Tally {
         faults: 0,
         negative: 0,
@@ -87,7 +71,7 @@ fn one_call(
 ) -> Result<bool, AllocError> {
     let kind = numbers.next() % 16;
     let stream = numbers.next() % STREAMS;
-    let octets = numbers.octets();
+    let octets = octets_of(numbers);
     match kind {
         0 | 1 => {
             ledger.open_stream(stream);

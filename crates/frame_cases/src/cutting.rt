@@ -1,7 +1,7 @@
 //! Reading octets at many cuttings.
 
-use crate::numbers::Numbers;
 use crate::text;
+use case_words::Numbers;
 use esi_base::Poll;
 use h2_frames::{FrameReader, FrameStop, Role};
 use std::alloc::{AllocError, Global};

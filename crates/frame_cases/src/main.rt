@@ -8,7 +8,6 @@
 #![tactic(auto)]
 
 mod cutting;
-mod numbers;
 mod parts;
 mod random;
 mod text;

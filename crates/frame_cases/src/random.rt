@@ -1,8 +1,8 @@
 //! Random sequences of frames, written and read again.
 
-use crate::numbers::Numbers;
 use crate::written::{add_frame, add_text};
 use crate::{cutting, parts};
+use case_words::Numbers;
 use esi_base::List;
 use h2_frames::{Frame, Role, Setting};
 use std::alloc::{AllocError, Global};

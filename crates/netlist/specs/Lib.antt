@@ -1,5 +1,9 @@
 pub mod InputPlaces
 pub mod Nets
+pub mod Formulas
+pub mod FormulaEquations
+pub mod FormulaLaws
+pub mod Parts
 pub mod Plans
 pub mod PlanLaws
 pub mod Settled

@@ -4,6 +4,9 @@ ghost use Rattle.netlist.specs.Nets.{Bits};
 ghost use Rattle.netlist.specs.Plans.{Plan, IsPlan};
 ghost use Rattle.netlist.specs.Settled.{IsSettled, HasOneSettled, AreInputs, AreHeld, HaveWidths};
 ghost use Rattle.netlist.specs.Runs.{HasOneRun};
+ghost use Rattle.netlist.specs.FormulaLaws.{HasItsWidth};
+
+use crate::formula::Formula;
 
 /// A netlist has exactly one settled assignment for all inputs and all words of its registers.
 #[tactic(auto, using(crate::specs::SettledLaws::one_settled))]
@@ -21,4 +24,9 @@ pub fn settled_widths_law()
 #[tactic(auto, using(crate::specs::Runs::one_run))]
 pub fn one_run_law()
     ensures { (plan : Plan) → IsPlan plan → (last : Option (List Bits)) (offers : List (List Bits)) → HasOneRun plan last offers }
+{}
+
+/// For words of the widths for which a formula is good, what it is worth is as wide as it is.
+pub fn formula_widths_law()
+    ensures { (formula : Formula) → HasItsWidth formula }
 {}

@@ -10,8 +10,22 @@ pub const MAX_WIDTH: u32 = 1024;
 /// numbers fit one limb.
 pub const MAX_NUMBER_WIDTH: u32 = 64;
 
+/// How many words a FIFO holds at least, and at most.
+pub const MIN_DEPTH: u32 = 2;
+
+pub const MAX_DEPTH: u32 = 64;
+
+/// How many branches a fork has at least, and at most.
+pub const MIN_BRANCHES: u32 = 2;
+
+pub const MAX_BRANCHES: u32 = 8;
+
 const _: () = prove!(MAX_NETS == 16_384);
 
 const _: () = prove!(MAX_WIDTH == 1024);
 
 const _: () = prove!(MAX_NUMBER_WIDTH == 64);
+
+const _: () = prove!(MIN_DEPTH == 2 && MAX_DEPTH == 64);
+
+const _: () = prove!(MIN_BRANCHES == 2 && MAX_BRANCHES == 8);

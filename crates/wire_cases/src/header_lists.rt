@@ -17,26 +17,39 @@ pub fn written(alloc: Global, text: &str) -> Result<Option<String>, NoMemory> {
     let mut decoder = Decoder::new(alloc)?;
     let mut answer = String::new(alloc);
     for (at, block) in text.split("|").enumerate() {
-        let Some(headers) = headers_of(alloc, block)? else {
-            return Ok(None);
-        };
-        let mut out = Octets::new(alloc);
-        if !write(&mut encoder, &headers, &mut out)? {
-            return Ok(None);
-        }
         if at > 0 {
             answer.push_str(" | ")?;
         }
-        let digits = octets::digits_of(alloc, out.as_slice())?;
-        answer.push_str(digits.as_str())?;
-        let due = header_blocks::of_headers(alloc, headers.as_slice())?;
-        let read = header_blocks::headers_of(alloc, &mut decoder, out.as_slice())?;
-        if read.as_str() != due.as_str() {
-            answer.push_str(", but read as ")?;
-            answer.push_str(read.as_str())?;
-        }
+        let Some(block) = block_text(alloc, &mut encoder, &mut decoder, block)? else {
+            return Ok(None);
+        };
+        answer.push_str(block.as_str())?;
         encoder.limit(0);
         encoder.limit(4_096);
+    }
+    Ok(Some(answer))
+}
+
+/// The octets of one block, and how it is read where that is another list.
+fn block_text(
+    alloc: Global,
+    encoder: &mut Encoder,
+    decoder: &mut Decoder,
+    text: &str,
+) -> Result<Option<String>, NoMemory> {
+    let Some(headers) = headers_of(alloc, text)? else {
+        return Ok(None);
+    };
+    let mut out = Octets::new(alloc);
+    if !write(encoder, &headers, &mut out)? {
+        return Ok(None);
+    }
+    let mut answer = octets::digits_of(alloc, out.as_slice())?;
+    let due = header_blocks::of_headers(alloc, headers.as_slice())?;
+    let read = header_blocks::headers_of(alloc, decoder, out.as_slice())?;
+    if read.as_str() != due.as_str() {
+        answer.push_str(", but read as ")?;
+        answer.push_str(read.as_str())?;
     }
     Ok(Some(answer))
 }

@@ -13,7 +13,6 @@ mod header_lists;
 mod huffman;
 mod message_texts;
 mod messages;
-mod numbers;
 mod octets;
 mod random;
 mod random_blocks;

@@ -1,7 +1,7 @@
 //! Random cases: what is written is read again.
 
-use crate::numbers::Numbers;
 use crate::{random_blocks, random_messages};
+use case_words::Numbers;
 use esi_base::{NoMemory, Octets};
 use std::alloc::Global;
 

@@ -1,8 +1,8 @@
 //! Random header blocks: each representation, with a model of the table beside them.
 
-use crate::numbers::Numbers;
 use crate::table_model::{TableModel, static_entry};
 use crate::{header_blocks, header_lists, random};
+use case_words::Numbers;
 use esi_base::{List, NoMemory, Octets};
 use hpack::{Decoder, Encoder, Header, Headers};
 use hpack_huffman::huff_encode;
@@ -17,16 +17,28 @@ pub fn blocks_come_back(alloc: Global, numbers: &mut Numbers) -> Result<bool, No
     let mut table = TableModel::new(alloc);
     let mut same = true;
     for _ in 0..numbers.below(8) + 1 {
-        let mut block = Block::new(alloc);
-        block.add_updates(numbers, &mut table)?;
-        for _ in 0..numbers.below(10) {
-            block.add_field(alloc, numbers, &mut table)?;
-        }
-        let due = header_blocks::of_headers(alloc, block.headers.as_slice())?;
-        let read = header_blocks::headers_of(alloc, &mut decoder, block.octets.as_slice())?;
-        same = same && read.as_str() == due.as_str();
+        let block = Block::random(alloc, numbers, &mut table)?;
+        let comes_back = is_read_as(
+            alloc,
+            &mut decoder,
+            block.octets.as_slice(),
+            block.headers.as_slice(),
+        )?;
+        same = same && comes_back;
     }
     Ok(same)
+}
+
+/// Whether a block is read as these headers.
+fn is_read_as(
+    alloc: Global,
+    decoder: &mut Decoder,
+    block: &[u8],
+    headers: &[Header],
+) -> Result<bool, NoMemory> {
+    let due = header_blocks::of_headers(alloc, headers)?;
+    let read = header_blocks::headers_of(alloc, decoder, block)?;
+    Ok(read.as_str() == due.as_str())
 }
 
 /// Whether 1 to 4 random header lists are read, by one decoder, as one encoder wrote them.
@@ -35,18 +47,33 @@ pub fn lists_come_back(alloc: Global, numbers: &mut Numbers) -> Result<bool, NoM
     let mut decoder = Decoder::new(alloc)?;
     let mut same = true;
     for _ in 0..numbers.below(4) + 1 {
-        let mut headers = List::new(alloc);
-        for _ in 0..numbers.below(8) {
-            headers.add(random_header(alloc, numbers)?)?;
-        }
-        let mut out = Octets::new(alloc);
-        let written = header_lists::write(&mut encoder, &headers, &mut out)?;
+        let headers = random_headers(alloc, numbers)?;
+        let comes_back = list_comes_back(alloc, &mut encoder, &mut decoder, &headers)?;
         encoder.limit(numbers.next());
-        let due = header_blocks::of_headers(alloc, headers.as_slice())?;
-        let read = header_blocks::headers_of(alloc, &mut decoder, out.as_slice())?;
-        same = same && written && read.as_str() == due.as_str();
+        same = same && comes_back;
     }
     Ok(same)
+}
+
+/// Whether a header list is read as it was written.
+fn list_comes_back(
+    alloc: Global,
+    encoder: &mut Encoder,
+    decoder: &mut Decoder,
+    headers: &Headers,
+) -> Result<bool, NoMemory> {
+    let mut out = Octets::new(alloc);
+    let written = header_lists::write(encoder, headers, &mut out)?;
+    Ok(is_read_as(alloc, decoder, out.as_slice(), headers.as_slice())? && written)
+}
+
+/// 0 to 7 random headers.
+fn random_headers(alloc: Global, numbers: &mut Numbers) -> Result<Headers, NoMemory> {
+    let mut headers = List::new(alloc);
+    for _ in 0..numbers.below(8) {
+        headers.add(random_header(alloc, numbers)?)?;
+    }
+    Ok(headers)
 }
 
 /// A random header.
@@ -71,6 +98,20 @@ impl Block {
             octets: Octets::new(alloc),
             headers: List::new(alloc),
         }
+    }
+
+    /// A block of 0 to 2 size updates and 0 to 9 random fields.
+    fn random(
+        alloc: Global,
+        numbers: &mut Numbers,
+        table: &mut TableModel,
+    ) -> Result<Block, NoMemory> {
+        let mut block = Block::new(alloc);
+        block.add_updates(numbers, table)?;
+        for _ in 0..numbers.below(10) {
+            block.add_field(alloc, numbers, table)?;
+        }
+        Ok(block)
     }
 
     /// Adds 0 to 2 size updates, seldom some.

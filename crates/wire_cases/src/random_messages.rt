@@ -1,7 +1,7 @@
 //! Random fields, messages, calls and texts, written and read again.
 
-use crate::numbers::Numbers;
 use crate::{calls, fields, huffman, messages, octets, random, written_messages};
+use case_words::Numbers;
 use esi_base::{List, NoMemory, Octets};
 use grpc_calls::Deframer;
 use hpack_huffman::{huff_decode, huff_encode};
@@ -13,40 +13,89 @@ pub fn fields_come_back(alloc: Global, numbers: &mut Numbers) -> Result<bool, No
     let mut out = Octets::new(alloc);
     let mut due = String::new(alloc);
     for _ in 0..numbers.below(8) {
-        let number = field_number(numbers);
-        let value = match numbers.below(4) {
-            0 => {
-                let value = varint(numbers);
-                write_varint(&mut out, u64::from(number) * 8)?;
-                write_varint(&mut out, value)?;
-                format!(in alloc; "varint {value}")?
-            }
-            1 => {
-                let value = varint(numbers);
-                write_varint(&mut out, u64::from(number) * 8 + 1)?;
-                out.push_all(&value.to_le_bytes())?;
-                format!(in alloc; "fixed64 {value}")?
-            }
-            2 => {
-                let value = numbers.next();
-                write_varint(&mut out, u64::from(number) * 8 + 5)?;
-                out.push_all(&value.to_le_bytes())?;
-                format!(in alloc; "fixed32 {value}")?
-            }
-            _ => {
-                let octets = random::octets(alloc, numbers, 200)?;
-                fields::write_octets(&mut out, number, octets.as_slice())?;
-                let octets = octets::text_of(alloc, octets.as_slice())?;
-                format!(in alloc; "octets {octets}")?
-            }
-        };
-        let after = out.len();
-        let field = format!(in alloc; "{number}: {value} to {after}, ")?;
-        due.push_str(field.as_str())?;
+        add_field(alloc, numbers, &mut out, &mut due)?;
     }
     due.push_str("end")?;
     let read = fields::fields_of(alloc, out.as_slice())?;
     Ok(read.as_str() == due.as_str())
+}
+
+/// Adds a random field, and adds it as text.
+fn add_field(
+    alloc: Global,
+    numbers: &mut Numbers,
+    out: &mut Octets,
+    due: &mut String,
+) -> Result<(), NoMemory> {
+    let number = field_number(numbers);
+    let value = add_value(alloc, numbers, number, out)?;
+    let after = out.len();
+    let field = format!(in alloc; "{number}: {value} to {after}, ")?;
+    due.push_str(field.as_str())?;
+    Ok(())
+}
+
+/// Adds a field with a random value, and gives the value as text.
+fn add_value(
+    alloc: Global,
+    numbers: &mut Numbers,
+    number: u32,
+    out: &mut Octets,
+) -> Result<String, NoMemory> {
+    match numbers.below(4) {
+        0 => add_varint(alloc, numbers, number, out),
+        1 => add_fixed64(alloc, numbers, number, out),
+        2 => add_fixed32(alloc, numbers, number, out),
+        _ => add_span(alloc, numbers, number, out),
+    }
+}
+
+fn add_varint(
+    alloc: Global,
+    numbers: &mut Numbers,
+    number: u32,
+    out: &mut Octets,
+) -> Result<String, NoMemory> {
+    let value = varint(numbers);
+    write_varint(out, u64::from(number) * 8)?;
+    write_varint(out, value)?;
+    Ok(format!(in alloc; "varint {value}")?)
+}
+
+fn add_fixed64(
+    alloc: Global,
+    numbers: &mut Numbers,
+    number: u32,
+    out: &mut Octets,
+) -> Result<String, NoMemory> {
+    let value = varint(numbers);
+    write_varint(out, u64::from(number) * 8 + 1)?;
+    out.push_all(&value.to_le_bytes())?;
+    Ok(format!(in alloc; "fixed64 {value}")?)
+}
+
+fn add_fixed32(
+    alloc: Global,
+    numbers: &mut Numbers,
+    number: u32,
+    out: &mut Octets,
+) -> Result<String, NoMemory> {
+    let value = numbers.next();
+    write_varint(out, u64::from(number) * 8 + 5)?;
+    out.push_all(&value.to_le_bytes())?;
+    Ok(format!(in alloc; "fixed32 {value}")?)
+}
+
+fn add_span(
+    alloc: Global,
+    numbers: &mut Numbers,
+    number: u32,
+    out: &mut Octets,
+) -> Result<String, NoMemory> {
+    let octets = random::octets(alloc, numbers, 200)?;
+    fields::write_octets(out, number, octets.as_slice())?;
+    let octets = octets::text_of(alloc, octets.as_slice())?;
+    Ok(format!(in alloc; "octets {octets}")?)
 }
 
 /// The number of a field: often a small one, sometimes any.
@@ -150,26 +199,48 @@ pub fn calls_come_back(alloc: Global, numbers: &mut Numbers) -> Result<bool, NoM
     let mut out = Octets::new(alloc);
     let mut due = String::new(alloc);
     for _ in 0..numbers.below(6) {
-        let message = random::octets(alloc, numbers, 300)?;
-        calls::write(message.as_slice(), &mut out)?;
-        let digits = octets::digits_of(alloc, message.as_slice())?;
-        due.push_str(digits.as_str())?;
-        due.push_str(", ")?;
+        add_call(alloc, numbers, &mut out, &mut due)?;
     }
-    let mut deframer = Deframer::new(alloc, 300);
     let mut read = String::new(alloc);
-    let mut rest = out.as_slice();
+    let is_pending = read_cut_anyhow(alloc, numbers, out.as_slice(), &mut read)?;
+    Ok(read.as_str() == due.as_str() && is_pending)
+}
+
+/// Adds a random message with its prefix, and adds it as text.
+fn add_call(
+    alloc: Global,
+    numbers: &mut Numbers,
+    out: &mut Octets,
+    due: &mut String,
+) -> Result<(), NoMemory> {
+    let message = random::octets(alloc, numbers, 300)?;
+    calls::write(message.as_slice(), out)?;
+    let digits = octets::digits_of(alloc, message.as_slice())?;
+    due.push_str(digits.as_str())?;
+    due.push_str(", ")?;
+    Ok(())
+}
+
+/// Adds the messages that octets have, read in pieces of random lengths; whether none is left at the end.
+fn read_cut_anyhow(
+    alloc: Global,
+    numbers: &mut Numbers,
+    octets: &[u8],
+    read: &mut String,
+) -> Result<bool, NoMemory> {
+    let mut deframer = Deframer::new(alloc, 300);
+    let mut rest = octets;
     let mut is_pending = true;
     for _ in 0..u32::MAX {
         if rest.is_empty() {
             break;
         }
         let count = (numbers.below(60) as usize + 1).min(rest.len());
-        let end = calls::feed(alloc, &mut deframer, &rest[..count], &mut read)?;
+        let end = calls::feed(alloc, &mut deframer, &rest[..count], read)?;
         is_pending = end == "pending";
         rest = &rest[count..];
     }
-    Ok(read.as_str() == due.as_str() && is_pending)
+    Ok(is_pending)
 }
 
 /// Whether a random text comes back from its Huffman code.

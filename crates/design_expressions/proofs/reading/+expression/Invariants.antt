@@ -1,5 +1,8 @@
 use Rattle.std.proofs.Common.{◌+◌, ◌*◌, [], ◌∷◌, length}
 use Rattle.ll1_grammar.specs.Loops.{Turning}
+use Rattle.design_grammar.specs.declared.kind.Kind.TheVariants.{Comma}
+use Rattle.design_grammar.specs.Kinds.{code}
+use Rattle.design_grammar.specs.Lists.{one_more, after_comma}
 use Rattle.design_grammar.specs.Rules.{designs}
 use Rattle.design_expressions.specs.ExpressionReading as spec
 use Rattle.design_expressions.proofs.reading.+expression.Given as goal
@@ -65,7 +68,7 @@ abbrev pub decreases-level : goal.decreases-level
 decreases-level l = 11 * l.levels + 10
 
 abbrev pub invariant-parts-loop-alloc : goal.invariant-parts-loop-alloc
-invariant-parts-loop-alloc l = Turning designs (8 ∷ []) (spec.one_more (spec.expression_at l.levels)) [] l.initial.cursor l.parts l.cursor
+invariant-parts-loop-alloc l = Turning designs (code Comma ∷ []) (one_more (after_comma (spec.expression_at l.levels))) [] l.initial.cursor l.parts l.cursor
 
 abbrev pub decreases-parts-loop-alloc : goal.decreases-parts-loop-alloc
 decreases-parts-loop-alloc l = length l.cursor

@@ -13,7 +13,7 @@ use Rattle.design_printer.proofs.design.print_tree.Goals as goal
 pub returns : goal.returns
 returns c =
     let version : c.sign.new.self ≡ with_token SEMICOLON (with_token (Number 1) (with_token (Word (codes "esi")) c.new-printer.result)) =
-    c.in_ok-sign.ensures ∙ ap (λ (p : Printer). with_token SEMICOLON p) (c.in_ok-number.ensures ∙ ap (λ (p : Printer). with_token (Number 1) p) c.in_ok-word.ensures) in
+    c.in_ok-sign.ensures ∙ ap (λ (p : Printer). with_token SEMICOLON p) (c.in_ok-number.ensures ∙ ap (λ (p : Printer). with_token (Number 1) p) c.in_ok-keyword.ensures) in
     let all : c.print_after_version.new.printer ≡ with_tokens (tokens_of c.args.tree.now) c.new-printer.result = c.in_ok-print_after_version.ensures ∙ ap (λ (p : Printer). with_tokens (tokens_after_version c.args.tree.now) p) version in
     let text : c.print_after_version.new.printer.text ≡ canonical (tokens_of c.args.tree.now) = ap (λ (p : Printer). p.text) all ∙ text_is_canonical (tokens_of c.args.tree.now) c.new-printer.result c.new-printer.ensures in
     record {

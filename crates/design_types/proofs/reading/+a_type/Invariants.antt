@@ -3,6 +3,7 @@ use Rattle.ll1_grammar.specs.Loops.{Turning}
 use Rattle.design_grammar.specs.declared.kind.Kind.TheVariants.{Comma}
 use Rattle.design_grammar.specs.Kinds.{code}
 use Rattle.design_grammar.specs.Rules.{designs}
+use Rattle.design_grammar.specs.Lists.{one_more, after_comma}
 use Rattle.design_types.specs.TypeReading as spec
 use Rattle.design_types.proofs.reading.+a_type.Given as goal
 
@@ -29,7 +30,7 @@ decreases-field l = 6 * l.levels + 1
 
 abbrev pub invariant-more_fields-loop-alloc : goal.invariant-more_fields-loop-alloc
 invariant-more_fields-loop-alloc l =
-    Turning designs (code Comma ∷ []) (spec.one_more (spec.type_at l.levels)) (l.fn.first ∷ []) l.initial.cursor l.fields l.cursor
+    Turning designs (code Comma ∷ []) (one_more (after_comma (spec.field (spec.type_at l.levels)))) (l.fn.first ∷ []) l.initial.cursor l.fields l.cursor
 
 abbrev pub decreases-more_fields-loop-alloc : goal.decreases-more_fields-loop-alloc
 decreases-more_fields-loop-alloc l = length l.cursor

@@ -1,5 +1,5 @@
-use Rattle.std.proofs.Common.{◌≡◌, ◌<◌, length, sym, ◌∙◌, ap, subst, Some}
-use Rattle.netlist.specs.Plans.{Plan, IsPlan, next_of}
+use Rattle.std.proofs.Common.{◌<◌, length, sym, subst}
+use Rattle.netlist.specs.Plans.{Plan, IsPlan}
 use Rattle.netlist.proofs.sealed.Sealed.next.Goals as goal
 
 pub returns-in-Some-clause-within : goal.returns-in-Some-clause-within

@@ -1,0 +1,4 @@
+pub mod BodyLaws
+pub mod Cycles
+pub mod Makers
+pub mod Signals

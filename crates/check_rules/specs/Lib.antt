@@ -1,0 +1,12 @@
+pub mod RuleNumbers
+pub mod Scopes
+pub mod References
+pub mod DeclaredTwice
+pub mod Undeclared
+pub mod Counts
+pub mod Directions
+pub mod Uses
+pub mod Dependencies
+pub mod Signalling
+pub mod Totals
+pub mod Checks

@@ -1,0 +1,5 @@
+pub mod Walks
+pub mod RuleLaws
+pub mod ReferenceSteps
+pub mod UnusedSteps
+pub mod VariableSteps

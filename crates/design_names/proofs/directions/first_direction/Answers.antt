@@ -1,0 +1,9 @@
+use Rattle.std.specs.Prelude.{None}
+use Rattle.design_names.specs.ReferencePlaces.{body_wrong}
+use Rattle.design_names.proofs.Walks.{least_item}
+use Rattle.design_names.proofs.directions.first_direction.Goals as goal
+
+pub loop-body-preserved : goal.loop-body-preserved
+loop-body-preserved c =
+    least_item (body_wrong c.args.declared.now) None c.loop-body.place c.in_ok-place.place c.args.bodies.now c.loop-body.body-index c.body-item.result c.loop-body-test.true c.body-item.is
+    c.loop-body.invariant c.in_ok-place.ensures

@@ -1,0 +1,9 @@
+use Rattle.std.proofs.Common.{◌≡◌, take}
+use Rattle.std.specs.List.{flat_map}
+use Rattle.name_tables.specs.FirstPlaces.{least, least_from}
+use Rattle.check_rules.specs.Directions.{statement_directions}
+use Rattle.design_names.specs.ReferencePlaces.{binding_wrong, binding_out, body_wrong}
+use Rattle.design_names.proofs.directions.first_direction.Given as goal
+
+abbrev pub invariant-loop-body : goal.invariant-loop-body
+invariant-loop-body l = l.place ≡ least (flat_map (body_wrong l.declared) (take l.body-index l.bodies))

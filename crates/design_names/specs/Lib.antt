@@ -1,0 +1,3 @@
+pub mod Places
+pub mod ReferencePlaces
+pub mod UnusedPlaces

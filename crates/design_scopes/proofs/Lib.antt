@@ -1,0 +1,4 @@
+pub mod BodyLists
+pub mod Finding
+pub mod Found
+pub mod Resolved

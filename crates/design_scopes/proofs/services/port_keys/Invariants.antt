@@ -1,0 +1,7 @@
+use Rattle.std.proofs.Common.{◌≡◌, map, take}
+use Rattle.name_tables.specs.Keys.{label_of}
+use Rattle.design_scopes.specs.Tables.{service_port_label}
+use Rattle.design_scopes.proofs.services.port_keys.Given as goal
+
+abbrev pub invariant-loop-port : goal.invariant-loop-port
+invariant-loop-port l = map label_of l.keys ≡ map service_port_label (take l.port-index l.ports)

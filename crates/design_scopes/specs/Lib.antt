@@ -1,0 +1,4 @@
+pub mod Bodies
+pub mod Flat
+pub mod Tables
+pub mod Resolving

@@ -1,0 +1,5 @@
+pub mod Numbers
+pub mod Placings
+pub mod Notes
+pub mod OrderLaws
+pub mod Reaching

@@ -1,0 +1,5 @@
+pub mod Counting
+pub mod Laid
+pub mod Totals
+pub mod Balances
+pub mod Fittings

@@ -1,0 +1,4 @@
+pub mod Fitting
+pub mod FlatLaws
+pub mod Laying
+pub mod OnceLemmas

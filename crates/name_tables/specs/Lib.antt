@@ -1,0 +1,9 @@
+pub mod Labels
+pub mod Repeats
+pub mod FirstPlaces
+pub mod Keys
+pub mod Tables
+pub mod Lists
+pub mod LabelLaws
+pub mod PlaceLaws
+pub mod ListLaws
