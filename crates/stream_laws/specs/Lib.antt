@@ -1,6 +1,3 @@
 pub mod NoData
 pub mod Windows
 pub mod Marks
-pub mod RowMarks
-pub mod MarkLaws
-pub mod WithinLaws

@@ -12,7 +12,7 @@ ghost use Rattle.stream_laws.specs.Windows.{window_calls};
 /// DATA that is put passes no window, over any calls in which octets of DATA are put by `poll_send`
 /// alone. After any such calls of a new end the connection's windows and each open stream's are the
 /// sums over the entries.
-#[tactic(auto, using(crate::specs::WithinLaws::run_within, crate::specs::WithinLaws::connection_windows))]
+#[tactic(auto, using(crate::proofs::WithinLaws::run_within, crate::proofs::WithinLaws::connection_windows))]
 pub fn windows_law()
     ensures within { (calls : List Call) (old : Standing) (entries : List Entry) (new : Standing)
         → SendsByWindow calls → IsRun old calls entries new → AreWithin entries old }

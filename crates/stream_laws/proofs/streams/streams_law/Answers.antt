@@ -1,4 +1,4 @@
-use Rattle.stream_laws.specs.MarkLaws.{streams_marked}
+use Rattle.stream_laws.proofs.MarkLaws.{streams_marked}
 use Rattle.stream_laws.proofs.streams.streams_law.Goals as goal
 
 pub returns-clause-open_streams : goal.returns-clause-open_streams

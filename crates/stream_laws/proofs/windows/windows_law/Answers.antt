@@ -1,4 +1,4 @@
-use Rattle.stream_laws.specs.WithinLaws.{stream_windows}
+use Rattle.stream_laws.proofs.WithinLaws.{stream_windows}
 use Rattle.stream_laws.proofs.windows.windows_law.Goals as goal
 
 -- src/windows.rt:13:1
