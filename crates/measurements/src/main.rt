@@ -1,6 +1,7 @@
 //! Does one piece of work many times, so that a script can time it (the folder `bench`).
 #![tactic(auto)]
 
+mod calls;
 mod frames;
 mod headers;
 mod huffman;

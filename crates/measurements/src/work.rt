@@ -1,7 +1,7 @@
 //! What is done again and again.
 ghost use Rattle.std.specs.Prelude.{◌≤◌, length};
 
-use crate::{frames, headers, huffman, messages, streams, types};
+use crate::{calls, frames, headers, huffman, messages, streams, types};
 use esi_base::LONGEST_TEXT;
 use std::alloc::Global;
 
@@ -42,6 +42,8 @@ pub enum Work {
     ReadFrames(usize),
     /// The frames of a connection are written.
     WriteFrames,
+    /// Calls go through a client and a server, so many open at once.
+    ServeCalls(u32),
 }
 
 impl Work {
@@ -65,6 +67,8 @@ impl Work {
             "read-frames-1" => Work::ReadFrames(1),
             "read-frames-16384" => Work::ReadFrames(FRAME_PIECE),
             "write-frames" => Work::WriteFrames,
+            "serve-calls-1" => Work::ServeCalls(1),
+            "serve-calls-64" => Work::ServeCalls(64),
             _ => return None,
         })
     }
@@ -89,6 +93,7 @@ impl Work {
             Work::WritePrefixed => streams::write(alloc, rounds, octets),
             Work::ReadFrames(piece) => frames::read(alloc, rounds, octets, piece.max(1)),
             Work::WriteFrames => frames::write(alloc, rounds, octets),
+            Work::ServeCalls(open) => calls::serve(alloc, rounds, octets, open),
         }
     }
 }

@@ -5,10 +5,15 @@
 //! first SETTINGS of its peer (`new` as the first word leaves both out), and do what the words say, one
 //! after another. The answer is what happened, and what the end has put. Each case is run twice, the
 //! second time with each octet fed alone, and says so where that gave another answer.
+//!
+//! `talk SEED CONVERSATIONS CALLS` lets a client and a server talk, so often.
 #![tactic(auto)]
 
+mod body;
+mod lists;
 mod parts;
 mod session;
+mod talk;
 mod text;
 
 use h2_streams::Conn;
@@ -38,6 +43,9 @@ fn answer_of(alloc: Global, line: &str) -> Result<Option<String>, AllocError> {
     let Some((name, words)) = line.split_once(" ") else {
         return Ok(None);
     };
+    if name == "talk" {
+        return talk_of(alloc, words);
+    }
     let Some(mut whole) = run(alloc, name, words, false)? else {
         return Ok(None);
     };
@@ -49,6 +57,24 @@ fn answer_of(alloc: Global, line: &str) -> Result<Option<String>, AllocError> {
         whole.push_str(note.as_str())?;
     }
     Ok(Some(whole))
+}
+
+/// Holds conversations; None where the words are not three numbers.
+fn talk_of(alloc: Global, words: &str) -> Result<Option<String>, AllocError> {
+    let mut numbers = words.split_whitespace();
+    let seed = number(numbers.next());
+    let conversations = number(numbers.next());
+    let calls = number(numbers.next());
+    match (seed, conversations, calls) {
+        (Some(seed), Some(conversations), Some(calls)) => {
+            Ok(Some(talk::answer(alloc, seed, conversations, calls)?))
+        }
+        _ => Ok(None),
+    }
+}
+
+fn number(word: Option<&str>) -> Option<u32> {
+    word?.parse::<u32>().ok()
 }
 
 /// Runs a case, octet by octet or in whole pieces.

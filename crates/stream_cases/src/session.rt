@@ -1,12 +1,9 @@
 //! One end of a connection, and what is done with it.
-ghost use Rattle.std.specs.Prelude.{◌≡◌, ◌≤◌, ◌++◌, ◌∷◌, [], IfOk, OnOk};
-ghost use Rattle.hpack.specs.Tables.{list_size};
-ghost use Rattle.hpack.specs.declared.limits.TheConstants.{MAX_HEADER_LIST_SIZE};
 
+use crate::lists::{reply, request};
 use crate::{parts, text};
-use esi_base::{List, Octets, Poll};
+use esi_base::Poll;
 use h2_streams::{CallEvent, Conn, OpenStop};
-use hpack::{Header, Headers};
 use std::alloc::{AllocError, Global};
 
 /// The types and the flag of the frames that `visit` and `fill` feed.
@@ -312,44 +309,4 @@ impl Session {
 /// The number that a piece of a word is; 0 where it is none.
 fn number(piece: Option<&str>) -> u32 {
     piece.unwrap_or("0").parse::<u32>().unwrap_or(0)
-}
-
-/// A header.
-fn header(alloc: Global, name: &[u8], value: &[u8]) -> Result<Header, AllocError>
-    ensures { IfOk result (λ header. header ≡ record { name = name.now; value = value.now }) }
-{
-    Ok(Header {
-        name: Octets::from_slice(alloc, name)?,
-        value: Octets::from_slice(alloc, value)?,
-    })
-}
-
-/// A request's header list.
-fn request(alloc: Global) -> Result<Headers, AllocError>
-    ensures { IfOk result (λ headers. list_size headers ≤ MAX_HEADER_LIST_SIZE) }
-{
-    let mut headers = List::new(alloc);
-    add(&mut headers, header(alloc, b":method", b"GET")?)?;
-    add(&mut headers, header(alloc, b":scheme", b"http")?)?;
-    add(&mut headers, header(alloc, b":path", b"/")?)?;
-    Ok(headers)
-}
-
-/// A reply's.
-fn reply(alloc: Global) -> Result<Headers, AllocError>
-    ensures { IfOk result (λ headers. list_size headers ≤ MAX_HEADER_LIST_SIZE) }
-{
-    let mut headers = List::new(alloc);
-    add(&mut headers, header(alloc, b":status", b"200")?)?;
-    Ok(headers)
-}
-
-/// Adds a header at the end.
-fn add(headers: &mut Headers, header: Header) -> Result<(), AllocError>
-    ensures { OnOk result (headers.new ≡ headers.old ++ header ∷ []) }
-{
-    match headers.add(header) {
-        Ok(()) => Ok(()),
-        Err(_failed) => Err(AllocError),
-    }
 }

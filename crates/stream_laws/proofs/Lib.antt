@@ -1,0 +1,3 @@
+pub mod RowMarks
+pub mod MarkLaws
+pub mod WithinLaws

@@ -1,0 +1,3 @@
+pub mod NoData
+pub mod Windows
+pub mod Marks

@@ -1,0 +1,9 @@
+//! Laws of the streams of a connection over its history (RFC 9113, sections 5.1 and 5.2): which streams
+//! are open, and how much DATA the windows let through, as questions of the entries.
+#![tactic(auto)]
+
+pub mod streams;
+pub mod windows;
+
+pub use streams::streams_law;
+pub use windows::windows_law;
