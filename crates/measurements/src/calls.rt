@@ -174,7 +174,10 @@ fn request(alloc: Global) -> Result<Headers, AllocError>
     add(&mut headers, header(alloc, b":method", b"POST")?)?;
     add(&mut headers, header(alloc, b":scheme", b"http")?)?;
     add(&mut headers, header(alloc, b":path", b"/service/Call")?)?;
-    add(&mut headers, header(alloc, b"content-type", b"application/grpc")?)?;
+    add(
+        &mut headers,
+        header(alloc, b"content-type", b"application/grpc")?,
+    )?;
     add(&mut headers, header(alloc, b"te", b"trailers")?)?;
     Ok(headers)
 }
@@ -185,7 +188,10 @@ fn reply(alloc: Global) -> Result<Headers, AllocError>
 {
     let mut headers = List::new(alloc);
     add(&mut headers, header(alloc, b":status", b"200")?)?;
-    add(&mut headers, header(alloc, b"content-type", b"application/grpc")?)?;
+    add(
+        &mut headers,
+        header(alloc, b"content-type", b"application/grpc")?,
+    )?;
     Ok(headers)
 }
 

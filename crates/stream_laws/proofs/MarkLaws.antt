@@ -1,5 +1,5 @@
 -- After any entries the open streams are those that the marks of the entries open, and neither close nor end on both sides.
-use Rattle.std.proofs.Common.{◌≡◌, ℕ, ◌<◌, ◌||◌, Bool, true, false, cond, ltb, is_some, Option, Some, None, List, [], ◌∷◌, ◌++◌, map, length, Result, Ok, Err, refl, ap, sym, ◌∙◌, subst, arith}
+use Rattle.std.proofs.Common.{◌≡◌, ℕ, ◌<◌, ◌||◌, Bool, true, false, cond, ltb, is_some, Option, Some, None, List, [], ◌∷◌, ◌++◌, length, Result, Ok, Err, refl, ap, sym, subst}
 use Rattle.std.specs.Prelude.{◌==◌}
 use Rattle.std.proofs.Math.Bool.{or-false}
 use Rattle.std.proofs.lemmas.Bool.{ltb-true}
@@ -29,12 +29,12 @@ use Rattle.h2_layouts.specs.declared.role.Role.{Role}
 use Rattle.h2_layouts.specs.declared.role.Role.TheVariants.{Server, Client}
 use Rattle.h2_layouts.specs.declared.setting.Setting.{Setting}
 use Rattle.h2_layouts.specs.declared.setting.TheConstants.{HEADER_TABLE_SIZE, INITIAL_WINDOW_SIZE, MAX_CONCURRENT_STREAMS}
-use Rattle.stream_laws.specs.Marks.{Mark, open_by, is_open_by, was_opened, was_ended_there, was_ended_here, was_closed, if_open, marks_opening, marks_ended_here, marks_ended_there, marks_closed, marks_of_frame, marks_of_put, marks_of_data, marks_of_row, marks_of_list, marks_of_listing, marks_of_fragment, marks_of_headers, marks_of_continuation, marks_of_reset, marks_of_read, marks_of_entry, all_marks, IsAsMarked}
-use Rattle.stream_laws.specs.Marks.Mark.{Opens, EndsThere, EndsHere, Closes}
-use Rattle.stream_laws.proofs.RowMarks.{Story, no_story, tell, tells, told_joined, asked_of, story_asked, RowIs, Fits, FitsStory, here_closes, there_closes, here_stays, there_stays, begun_stays, found_with, closes, ends_all, opens}
+use Rattle.stream_laws.specs.Marks.{Mark, open_by, was_opened, was_ended_there, was_ended_here, was_closed, if_open, marks_opening, marks_ended_here, marks_ended_there, marks_closed, marks_of_frame, marks_of_put, marks_of_data, marks_of_row, marks_of_list, marks_of_listing, marks_of_fragment, marks_of_headers, marks_of_continuation, marks_of_reset, marks_of_read, marks_of_entry, all_marks, IsAsMarked}
+use Rattle.stream_laws.specs.Marks.Mark.{EndsThere, EndsHere}
+use Rattle.stream_laws.proofs.RowMarks.{Story, no_story, tells, told_joined, asked_of, story_asked, RowIs, FitsStory, here_closes, there_closes, here_stays, there_stays, begun_stays, found_with, closes, ends_all, opens}
 use Rattle.stream_table.specs.declared.open_stream.OpenStream.{OpenStream}
 use Rattle.stream_table.specs.RowLaws.{row_of-named}
-use Rattle.stream_table.specs.Rows.{row_of, is_open, with_row, new_row, after_opening}
+use Rattle.stream_table.specs.Rows.{row_of, with_row, new_row, after_opening}
 
 -- the marks lead from how the one stood to how the other does
 abbrev Leads : ℕ → Standing → List Mark → Standing → Type 0

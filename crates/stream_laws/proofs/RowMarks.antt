@@ -1,9 +1,8 @@
 -- What single marks do to the row of a stream.
 use Rattle.std.proofs.Common.{◌≡◌, ◌≢◌, ℕ, ◌<◌, ◌||◌, Bool, true, false, cond, eqb, ltb, inl, inr, is_some, Option, Some, None, List, [], ◌∷◌, ◌++◌, map, length, refl, ap, sym, ◌∙◌, subst, arith}
 use Rattle.std.proofs.lemmas.Bool.Decides.{eqb_tells}
-use Rattle.std.specs.List.{list_any}
 use Rattle.h2_flow.specs.declared.limits.TheConstants.{OPEN_STREAMS}
-use Rattle.stream_laws.specs.Marks.{Mark, is_opening, is_end_there, is_end_here, is_closing, was_opened, was_ended_there, was_ended_here, was_closed, open_by, is_open_by, if_open, marks_opening, marks_closed, closes_row, IsAsMarked}
+use Rattle.stream_laws.specs.Marks.{Mark, is_opening, is_end_there, is_end_here, is_closing, was_opened, was_ended_there, was_ended_here, was_closed, open_by, if_open, marks_opening, marks_closed, closes_row}
 use Rattle.stream_laws.specs.Marks.Mark.{Opens, EndsThere, EndsHere, Closes}
 use Rattle.stream_table.specs.declared.open_stream.OpenStream.{OpenStream}
 use Rattle.stream_table.specs.Rows.{row_of, with_row, without_stream, new_row, after_opening, AreApart}
@@ -98,7 +97,6 @@ there_one : (o t c : Bool) → open_by o t false c ≡ true → open_by o true f
 there_one o true c e = e
 there_one o false c e = e
 
-
 -- ---- removed rows
 
 cleared : (k other : ℕ) (rows : List OpenStream) → AreApart rows → row_of other rows ≡ None → row_of other (without_stream k rows) ≡ None
@@ -170,12 +168,12 @@ pub here_closes : (asked k : ℕ) (story : Story) (rows : List OpenStream) (g : 
 here_closes asked k story rows g row found peer fits =
     elim (eqb_tells k asked) [
       | inl e ↦
-        let says : RowIs story.opened story.there story.here story.closed (Some row) = row_says asked k story.opened story.there story.here story.closed rows g row found e.1 fits in
-        let shut : open_by story.opened story.there true story.closed ≡ false = ap (λ (x : Bool). open_by story.opened x true story.closed) (sym says.1 ∙ peer) ∙ both_not story.opened story.closed in
-        subst (λ (b : Bool). Fits asked story.opened story.there (b || story.here) story.closed (without_stream k rows) g) (sym e.0)
-        (removed_same asked k story.opened story.there story.here story.closed story.there true story.closed rows g e.1 shut (λ above. found_not_above k g story.opened story.there story.here story.closed asked rows row fits found (subst (λ (n : ℕ). g < n) (sym e.1) above)) fits)
+          let says : RowIs story.opened story.there story.here story.closed (Some row) = row_says asked k story.opened story.there story.here story.closed rows g row found e.1 fits in
+          let shut : open_by story.opened story.there true story.closed ≡ false = ap (λ (x : Bool). open_by story.opened x true story.closed) (sym says.1 ∙ peer) ∙ both_not story.opened story.closed in
+          subst (λ (b : Bool). Fits asked story.opened story.there (b || story.here) story.closed (without_stream k rows) g) (sym e.0)
+          (removed_same asked k story.opened story.there story.here story.closed story.there true story.closed rows g e.1 shut (λ above. found_not_above k g story.opened story.there story.here story.closed asked rows row fits found (subst (λ (n : ℕ). g < n) (sym e.1) above)) fits)
       | inr e ↦ subst (λ (b : Bool). Fits asked story.opened story.there (b || story.here) story.closed (without_stream k rows) g) (sym e.0)
-        (removed_other asked k story.opened story.there story.here story.closed rows g e.1 fits)
+          (removed_other asked k story.opened story.there story.here story.closed rows g e.1 fits)
     ]
 
 pub there_closes : (asked k : ℕ) (story : Story) (rows : List OpenStream) (g : ℕ) (row : OpenStream) → row_of k rows ≡ Some row → row.here_ended ≡ true
@@ -183,12 +181,12 @@ pub there_closes : (asked k : ℕ) (story : Story) (rows : List OpenStream) (g :
 there_closes asked k story rows g row found here fits =
     elim (eqb_tells k asked) [
       | inl e ↦
-        let says : RowIs story.opened story.there story.here story.closed (Some row) = row_says asked k story.opened story.there story.here story.closed rows g row found e.1 fits in
-        let shut : open_by story.opened true story.here story.closed ≡ false = ap (λ (x : Bool). open_by story.opened true x story.closed) (sym says.2 ∙ here) ∙ both_not story.opened story.closed in
-        subst (λ (b : Bool). Fits asked story.opened (b || story.there) story.here story.closed (without_stream k rows) g) (sym e.0)
-        (removed_same asked k story.opened story.there story.here story.closed true story.here story.closed rows g e.1 shut (λ above. found_not_above k g story.opened story.there story.here story.closed asked rows row fits found (subst (λ (n : ℕ). g < n) (sym e.1) above)) fits)
+          let says : RowIs story.opened story.there story.here story.closed (Some row) = row_says asked k story.opened story.there story.here story.closed rows g row found e.1 fits in
+          let shut : open_by story.opened true story.here story.closed ≡ false = ap (λ (x : Bool). open_by story.opened true x story.closed) (sym says.2 ∙ here) ∙ both_not story.opened story.closed in
+          subst (λ (b : Bool). Fits asked story.opened (b || story.there) story.here story.closed (without_stream k rows) g) (sym e.0)
+          (removed_same asked k story.opened story.there story.here story.closed true story.here story.closed rows g e.1 shut (λ above. found_not_above k g story.opened story.there story.here story.closed asked rows row fits found (subst (λ (n : ℕ). g < n) (sym e.1) above)) fits)
       | inr e ↦ subst (λ (b : Bool). Fits asked story.opened (b || story.there) story.here story.closed (without_stream k rows) g) (sym e.0)
-        (removed_other asked k story.opened story.there story.here story.closed rows g e.1 fits)
+          (removed_other asked k story.opened story.there story.here story.closed rows g e.1 fits)
     ]
 
 -- and on one that it has not
@@ -199,13 +197,13 @@ here_stays asked k story rows g row found peer fits =
     let new : OpenStream = record row { here_ended = true } in
     elim (eqb_tells k asked) [
       | inl e ↦
-        let says : RowIs story.opened story.there story.here story.closed (Some row) = row_says asked k story.opened story.there story.here story.closed rows g row found e.1 fits in
-        let there : story.there ≡ false = sym says.1 ∙ peer in
-        let still : open_by story.opened story.there true story.closed ≡ true = ap (λ (x : Bool). open_by story.opened x true story.closed) there ∙ here_one story.opened story.here story.closed (ap (λ (x : Bool). open_by story.opened x story.here story.closed) (sym there) ∙ says.0) in
-        subst (λ (b : Bool). Fits asked story.opened story.there (b || story.here) story.closed (with_row new rows) g) (sym e.0)
-        (replaced_same asked k story.opened story.there story.here story.closed story.there true story.closed rows g row new found named e.1 (still, says.1, refl) fits)
+          let says : RowIs story.opened story.there story.here story.closed (Some row) = row_says asked k story.opened story.there story.here story.closed rows g row found e.1 fits in
+          let there : story.there ≡ false = sym says.1 ∙ peer in
+          let still : open_by story.opened story.there true story.closed ≡ true = ap (λ (x : Bool). open_by story.opened x true story.closed) there ∙ here_one story.opened story.here story.closed (ap (λ (x : Bool). open_by story.opened x story.here story.closed) (sym there) ∙ says.0) in
+          subst (λ (b : Bool). Fits asked story.opened story.there (b || story.here) story.closed (with_row new rows) g) (sym e.0)
+          (replaced_same asked k story.opened story.there story.here story.closed story.there true story.closed rows g row new found named e.1 (still, says.1, refl) fits)
       | inr e ↦ subst (λ (b : Bool). Fits asked story.opened story.there (b || story.here) story.closed (with_row new rows) g) (sym e.0)
-        (replaced_other asked k story.opened story.there story.here story.closed rows g row new found named e.1 fits)
+          (replaced_other asked k story.opened story.there story.here story.closed rows g row new found named e.1 fits)
     ]
 
 pub there_stays : (asked k : ℕ) (story : Story) (rows : List OpenStream) (g : ℕ) (row : OpenStream) → row_of k rows ≡ Some row → row.here_ended ≡ false
@@ -215,13 +213,13 @@ there_stays asked k story rows g row found here fits =
     let new : OpenStream = record row { peer_ended = true } in
     elim (eqb_tells k asked) [
       | inl e ↦
-        let says : RowIs story.opened story.there story.here story.closed (Some row) = row_says asked k story.opened story.there story.here story.closed rows g row found e.1 fits in
-        let mine : story.here ≡ false = sym says.2 ∙ here in
-        let still : open_by story.opened true story.here story.closed ≡ true = ap (λ (x : Bool). open_by story.opened true x story.closed) mine ∙ there_one story.opened story.there story.closed (ap (λ (x : Bool). open_by story.opened story.there x story.closed) (sym mine) ∙ says.0) in
-        subst (λ (b : Bool). Fits asked story.opened (b || story.there) story.here story.closed (with_row new rows) g) (sym e.0)
-        (replaced_same asked k story.opened story.there story.here story.closed true story.here story.closed rows g row new found named e.1 (still, refl, says.2) fits)
+          let says : RowIs story.opened story.there story.here story.closed (Some row) = row_says asked k story.opened story.there story.here story.closed rows g row found e.1 fits in
+          let mine : story.here ≡ false = sym says.2 ∙ here in
+          let still : open_by story.opened true story.here story.closed ≡ true = ap (λ (x : Bool). open_by story.opened true x story.closed) mine ∙ there_one story.opened story.there story.closed (ap (λ (x : Bool). open_by story.opened story.there x story.closed) (sym mine) ∙ says.0) in
+          subst (λ (b : Bool). Fits asked story.opened (b || story.there) story.here story.closed (with_row new rows) g) (sym e.0)
+          (replaced_same asked k story.opened story.there story.here story.closed true story.here story.closed rows g row new found named e.1 (still, refl, says.2) fits)
       | inr e ↦ subst (λ (b : Bool). Fits asked story.opened (b || story.there) story.here story.closed (with_row new rows) g) (sym e.0)
-        (replaced_other asked k story.opened story.there story.here story.closed rows g row new found named e.1 fits)
+          (replaced_other asked k story.opened story.there story.here story.closed rows g row new found named e.1 fits)
     ]
 
 -- the first list of a stream ends nothing
@@ -232,8 +230,8 @@ begun_stays asked k story rows g row found fits =
     let new : OpenStream = record row { begun = true } in
     elim (eqb_tells k asked) [
       | inl e ↦
-        let says : RowIs story.opened story.there story.here story.closed (Some row) = row_says asked k story.opened story.there story.here story.closed rows g row found e.1 fits in
-        replaced_same asked k story.opened story.there story.here story.closed story.there story.here story.closed rows g row new found named e.1 (says.0, says.1, says.2) fits
+          let says : RowIs story.opened story.there story.here story.closed (Some row) = row_says asked k story.opened story.there story.here story.closed rows g row found e.1 fits in
+          replaced_same asked k story.opened story.there story.here story.closed story.there story.here story.closed rows g row new found named e.1 (says.0, says.1, says.2) fits
       | inr e ↦ replaced_other asked k story.opened story.there story.here story.closed rows g row new found named e.1 fits
     ]
 
@@ -242,8 +240,8 @@ closes_none : (asked k : ℕ) (story : Story) (rows : List OpenStream) (g : ℕ)
 closes_none asked k story rows g none fits =
     elim (eqb_tells k asked) [
       | inl e ↦
-        let shut : open_by story.opened story.there story.here story.closed ≡ false = subst (λ (r : Option OpenStream). RowIs story.opened story.there story.here story.closed r) (subst (λ (n : ℕ). row_of n rows ≡ None) e.1 none) fits.row in
-        removed_same asked k story.opened story.there story.here story.closed story.there story.here story.closed rows g e.1 shut fits.fresh fits
+          let shut : open_by story.opened story.there story.here story.closed ≡ false = subst (λ (r : Option OpenStream). RowIs story.opened story.there story.here story.closed r) (subst (λ (n : ℕ). row_of n rows ≡ None) e.1 none) fits.row in
+          removed_same asked k story.opened story.there story.here story.closed story.there story.here story.closed rows g e.1 shut fits.fresh fits
       | inr e ↦ removed_other asked k story.opened story.there story.here story.closed rows g e.1 fits
     ]
 
@@ -251,9 +249,9 @@ closes_row_found : (asked k : ℕ) (story : Story) (rows : List OpenStream) (g :
 closes_row_found asked k story rows g row found fits =
     elim (eqb_tells k asked) [
       | inl e ↦ subst (λ (b : Bool). Fits asked story.opened story.there story.here (b || story.closed) (without_stream k rows) g) (sym e.0)
-        (removed_same asked k story.opened story.there story.here story.closed story.there story.here true rows g e.1 (closed_not story.opened story.there story.here) (λ above. found_not_above k g story.opened story.there story.here story.closed asked rows row fits found (subst (λ (n : ℕ). g < n) (sym e.1) above)) fits)
+          (removed_same asked k story.opened story.there story.here story.closed story.there story.here true rows g e.1 (closed_not story.opened story.there story.here) (λ above. found_not_above k g story.opened story.there story.here story.closed asked rows row fits found (subst (λ (n : ℕ). g < n) (sym e.1) above)) fits)
       | inr e ↦ subst (λ (b : Bool). Fits asked story.opened story.there story.here (b || story.closed) (without_stream k rows) g) (sym e.0)
-        (removed_other asked k story.opened story.there story.here story.closed rows g e.1 fits)
+          (removed_other asked k story.opened story.there story.here story.closed rows g e.1 fits)
     ]
 
 closes_by : (asked k : ℕ) (story : Story) (rows : List OpenStream) (g : ℕ) (row : Option OpenStream) → row_of k rows ≡ row → FitsStory asked story rows g → FitsStory asked (tells asked (if_open row (Closes k)) story) (without_stream k rows) g
@@ -305,11 +303,11 @@ pushed_below asked k o t h c rows g above fits other more =
 pushed_same : (asked k : ℕ) (o t h c : Bool) (rows : List OpenStream) (g : ℕ) → g < k → k ≡ asked → Fits asked o t h c rows g → Fits asked true t h c (rows ++ new_row k ∷ []) k
 pushed_same asked k o t h c rows g above same fits =
     let is : AreFalse o t h c = fits.fresh (subst (λ (n : ℕ). g < n) same above) in record {
-  apart = AreApart-push (new_row k) rows fits.apart (fits.below k above);
-  below = pushed_below asked k o t h c rows g above fits;
-  row = subst (λ (r : Option OpenStream). RowIs true t h c r) (sym (subst (λ (n : ℕ). row_of n (rows ++ new_row k ∷ []) ≡ Some (new_row k)) same (row_of-push_same k (new_row k) rows refl (fits.below k above)))) (opens_new t h c k (is.1, is.2, is.3));
-  fresh = λ more. never k asked same more;
-}
+      apart = AreApart-push (new_row k) rows fits.apart (fits.below k above);
+      below = pushed_below asked k o t h c rows g above fits;
+      row = subst (λ (r : Option OpenStream). RowIs true t h c r) (sym (subst (λ (n : ℕ). row_of n (rows ++ new_row k ∷ []) ≡ Some (new_row k)) same (row_of-push_same k (new_row k) rows refl (fits.below k above)))) (opens_new t h c k (is.1, is.2, is.3));
+      fresh = λ more. never k asked same more;
+    }
 
 pushed_other : (asked k : ℕ) (o t h c : Bool) (rows : List OpenStream) (g : ℕ) → g < k → k ≢ asked → Fits asked o t h c rows g → Fits asked o t h c (rows ++ new_row k ∷ []) k
 pushed_other asked k o t h c rows g above ne fits = record {
@@ -339,16 +337,16 @@ opens_by : (b : Bool) (asked k : ℕ) (story : Story) (rows : List OpenStream) (
 opens_by true asked k story rows g above fits =
     elim (eqb_tells k asked) [
       | inl e ↦ subst (λ (b : Bool). Fits asked (b || story.opened) story.there story.here story.closed (rows ++ new_row k ∷ []) k) (sym e.0)
-        (pushed_same asked k story.opened story.there story.here story.closed rows g above e.1 fits)
+          (pushed_same asked k story.opened story.there story.here story.closed rows g above e.1 fits)
       | inr e ↦ subst (λ (b : Bool). Fits asked (b || story.opened) story.there story.here story.closed (rows ++ new_row k ∷ []) k) (sym e.0)
-        (pushed_other asked k story.opened story.there story.here story.closed rows g above e.1 fits)
+          (pushed_other asked k story.opened story.there story.here story.closed rows g above e.1 fits)
     ]
 opens_by false asked k story rows g above fits =
     elim (eqb_tells k asked) [
       | inl e ↦ subst (λ (b : Bool). Fits asked (b || story.opened) story.there story.here (b || story.closed) rows k) (sym e.0)
-        (refused_same asked k story.opened story.there story.here story.closed rows g above e.1 fits)
+          (refused_same asked k story.opened story.there story.here story.closed rows g above e.1 fits)
       | inr e ↦ subst (λ (b : Bool). Fits asked (b || story.opened) story.there story.here (b || story.closed) rows k) (sym e.0)
-        (refused_other asked k story.opened story.there story.here story.closed rows g above e.1 fits)
+          (refused_other asked k story.opened story.there story.here story.closed rows g above e.1 fits)
     ]
 
 pub opens : (asked k : ℕ) (story : Story) (rows : List OpenStream) (g : ℕ) → g < k → FitsStory asked story rows g → FitsStory asked (tells asked (marks_opening k rows) story) (after_opening k rows) k

@@ -1,6 +1,6 @@
 -- DATA that is put never passes a window, over any calls; so the windows after them are the sums over the history.
 use Rattle.std.proofs.Common.{◌≡◌, ℕ, ◌≤◌, ◌<◌, Bool, true, false, cond, Option, Some, None, List, [], ◌∷◌, ◌++◌, length, refl, ap, sym, ◌∙◌, subst, arith}
-use Rattle.std.specs.Prelude.{◌==◌, min}
+use Rattle.std.specs.Prelude.{◌==◌}
 use Rattle.h2_flow.specs.Windows.{Windows, may_send, first_windows}
 use Rattle.h2_flow.specs.History.{AreConnectionSums, AreStreamSums}
 use Rattle.h2_flow.specs.ConnectionSums.{connection_sums}
@@ -10,7 +10,7 @@ use Rattle.h2_frames.specs.Reading.Next.{NextUnfinished, NextFrame, NextFault}
 use Rattle.h2_history.specs.declared.header_block.HeaderBlock.{HeaderBlock}
 use Rattle.h2_history.specs.declared.verdict.Verdict.{Verdict}
 use Rattle.h2_history.specs.declared.verdict.Verdict.TheVariants.{ConnectionError, StreamError, Ignored, Accepted}
-use Rattle.h2_history.specs.FlowCalls.{flow_calls, IsWithin, AreWithin}
+use Rattle.h2_history.specs.FlowCalls.{IsWithin, AreWithin}
 use Rattle.h2_history.specs.FlowLaws.{flow_leads}
 use Rattle.h2_history.specs.Frames.{frame_seen, frame_owed, headers_owed, headers_read, continued_owed, continued_read, settings_owed}
 use Rattle.h2_history.specs.History.{Entry, outs, after, after_all, turn_entries, entries_by, entries_next, first_puts, new_standing}
@@ -20,8 +20,8 @@ use Rattle.h2_history.specs.Puts.Put.{Plain, Headers}
 use Rattle.h2_history.specs.RunLaws.{after_joined, step_stands, run_stands}
 use Rattle.h2_history.specs.Runs.{Call, Step, IsRun, quiet_entries, data_put}
 use Rattle.h2_history.specs.Runs.Call.{Feed, Tell, Rest, Offer, Send, Take}
-use Rattle.h2_history.specs.Settings.{Settled, settled}
-use Rattle.h2_history.specs.Standing.{Standing, may_put, room, first_standing}
+use Rattle.h2_history.specs.Settings.{settled}
+use Rattle.h2_history.specs.Standing.{Standing, may_put, first_standing}
 use Rattle.h2_history.specs.Verdicts.{owed, update_due, data_verdict, headers_verdict, reset_verdict, update_verdict}
 use Rattle.h2_layouts.specs.declared.code.TheConstants.{ENHANCE_YOUR_CALM}
 use Rattle.h2_layouts.specs.declared.frame.Frame.{Frame}

@@ -1,5 +1,5 @@
 -- What each entry of a history says of streams, each where it stands: which it opens, which it ends, which it closes.
-use Rattle.std.specs.Prelude.{◌≡◌, ℕ, ◌==◌, ◌&&◌, ◌||◌, not, nat_lt, Bool, true, false, Option, Some, None, List, [], ◌∷◌, ◌++◌, length, map, Result, Ok, Err, if◌then◌else◌}
+use Rattle.std.specs.Prelude.{◌≡◌, ℕ, ◌==◌, ◌&&◌, ◌||◌, not, nat_lt, Bool, false, Option, Some, None, List, [], ◌∷◌, ◌++◌, length, map, Result, Ok, Err, if◌then◌else◌}
 use Rattle.std.specs.List.{list_any}
 use Rattle.h2_flow.specs.declared.limits.TheConstants.{OPEN_STREAMS}
 use Rattle.hpack.specs.declared.stop.BlockRule.{BlockRule}
@@ -7,7 +7,7 @@ use Rattle.hpack.specs.Representations.{Listing}
 use Rattle.h2_history.specs.Blocks.{block_begun, block_grown, is_too_long, has_all_frames, decoded_at, list_verdict, row_wanted}
 use Rattle.h2_history.specs.declared.header_block.HeaderBlock.{HeaderBlock}
 use Rattle.h2_history.specs.declared.verdict.Verdict.{Verdict}
-use Rattle.h2_history.specs.declared.verdict.Verdict.TheVariants.{ConnectionError, StreamError, Ignored, Accepted}
+use Rattle.h2_history.specs.declared.verdict.Verdict.TheVariants.{ConnectionError, Accepted}
 use Rattle.h2_history.specs.Frames.{headers_opens}
 use Rattle.h2_history.specs.History.{Entry, passed, after}
 use Rattle.h2_history.specs.History.Entry.{Fed, In, Out, Took}

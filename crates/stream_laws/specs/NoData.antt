@@ -1,9 +1,9 @@
 -- Entries and calls by which no octet of DATA is put.
-use Rattle.std.specs.Prelude.{◌≡◌, ℕ, List, [], ◌∷◌}
+use Rattle.std.specs.Prelude.{◌≡◌, List, [], ◌∷◌}
 use Rattle.h2_history.specs.History.{Entry}
 use Rattle.h2_history.specs.History.Entry.{Fed, In, Out, Took}
 use Rattle.h2_history.specs.Puts.{Put}
-use Rattle.h2_history.specs.Puts.Put.{Plain, Headers}
+use Rattle.h2_history.specs.Puts.Put.{Plain}
 use Rattle.h2_history.specs.Runs.{Call}
 use Rattle.h2_history.specs.Runs.Call.{Feed, Tell, Rest, Offer, Send, Take}
 use Rattle.h2_layouts.specs.declared.frame.Frame.TheVariants.{Content}
