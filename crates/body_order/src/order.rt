@@ -1,5 +1,5 @@
 //! The order of a body's elements, and the first that depends on itself.
-ghost use Rattle.std.specs.Prelude.{◌≡◌, ◌++◌, IfOk, OnOk, map, length};
+ghost use Rattle.std.specs.Prelude.{◌≡◌, IfOk, map};
 ghost use Rattle.name_tables.specs.FirstPlaces.{Reports};
 ghost use Rattle.check_rules.specs.References.{statement_place};
 ghost use Rattle.element_order.specs.Orders.{ordered};

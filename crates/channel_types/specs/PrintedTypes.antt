@@ -28,7 +28,7 @@ use Rattle.design_grammar.specs.Grammar.{word_in, number_in}
 use Rattle.design_grammar.specs.Names.{IsName}
 use Rattle.channel_types.specs.declared.esi_type.EsiType.{EsiType}
 use Rattle.channel_types.specs.declared.esi_type.EsiType.TheVariants as V
-use Rattle.channel_types.specs.declared.esi_type.EsiType.TheVariants.{outs-Bits, outs-Void, outs-Struct, outs-Array, rolls-Bits, rolls-Void, rolls-Struct, rolls-Array}
+use Rattle.channel_types.specs.declared.esi_type.EsiType.TheVariants.{rolls-Bits, rolls-Void, rolls-Struct, rolls-Array}
 use Rattle.channel_types.specs.declared.esi_type.EsiType.TheOpen.{EsiType-F}
 use Rattle.channel_types.specs.declared.esi_type.EsiType.TheViews.{out-EsiType, roll-EsiType, roll-out-EsiType}
 use Rattle.channel_types.specs.declared.esi_type.Field.{Field}

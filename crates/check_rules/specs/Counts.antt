@@ -1,6 +1,5 @@
 -- Numbers of stages, depths and counts of channels that are out of their range.
 use Rattle.std.specs.Prelude.{ℕ, nat_lt, ◌||◌, List, [], ◌∷◌, ◌++◌, length, flat_map, Contains, if◌then◌else◌}
-use Rattle.design_tree.specs.declared.leaves.Name.{Name}
 use Rattle.design_tree.specs.declared.leaves.Number.{Number}
 use Rattle.design_tree.specs.declared.statements.Operation.{Operation}
 use Rattle.design_tree.specs.declared.statements.Operation.TheVariants as O

@@ -1,6 +1,5 @@
 -- Names that are declared twice.
 use Rattle.std.specs.Prelude.{ℕ, List, [], ◌∷◌, ◌++◌, map, flat_map, Contains}
-use Rattle.design_tree.specs.declared.leaves.Name.{Name}
 use Rattle.design_tree.specs.declared.statements.Operation.{Operation}
 use Rattle.design_tree.specs.declared.statements.Operation.TheVariants as O
 use Rattle.design_tree.specs.declared.statements.Statement.{Statement}

@@ -1,5 +1,5 @@
 -- Statements that depend on themselves.
-use Rattle.std.specs.Prelude.{◌≡◌, ℕ, ◌+◌, Bool, true, false, Option, Some, None, List, [], ◌∷◌, ◌++◌, map, flat_map, filter, slice_get, Contains, if◌then◌else◌}
+use Rattle.std.specs.Prelude.{◌≡◌, ℕ, ◌+◌, Bool, true, false, Some, List, [], ◌∷◌, ◌++◌, map, flat_map, filter, slice_get, Contains, if◌then◌else◌}
 use Rattle.design_tree.specs.declared.leaves.Reference.{Reference}
 use Rattle.design_tree.specs.declared.leaves.Reference.TheVariants as R
 use Rattle.design_tree.specs.declared.statements.Statement.{Statement}

@@ -1,5 +1,5 @@
 -- What statements refer to.
-use Rattle.std.specs.Prelude.{ℕ, Bool, true, false, Option, Some, None, List, [], ◌∷◌, ◌++◌, map, flat_map, if◌then◌else◌}
+use Rattle.std.specs.Prelude.{ℕ, Bool, Option, Some, None, List, [], ◌∷◌, map, flat_map, if◌then◌else◌}
 use Rattle.std.specs.List.{list_any}
 use Rattle.design_tree.specs.declared.leaves.Name.{Name}
 use Rattle.design_tree.specs.declared.leaves.ApplicationId.{ApplicationId}

@@ -1,5 +1,5 @@
 -- The bodies of a design, and what can be named in each.
-use Rattle.std.specs.Prelude.{ℕ, Bool, Option, Some, None, List, [], ◌∷◌, ◌++◌, map, find, flat_map, bytes_eq, ◌&&◌, false}
+use Rattle.std.specs.Prelude.{Bool, Option, Some, None, List, [], ◌∷◌, ◌++◌, find, flat_map, bytes_eq, ◌&&◌, false}
 use Rattle.name_tables.specs.Labels.{same_index}
 use Rattle.design_tree.specs.declared.leaves.Name.{Name}
 use Rattle.design_tree.specs.declared.leaves.ApplicationId.{ApplicationId}

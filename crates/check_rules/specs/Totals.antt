@@ -1,5 +1,5 @@
 -- How large a design is, and how many endpoints it has.
-use Rattle.std.specs.Prelude.{◌≡◌, ℕ, ◌+◌, ◌<◌, List, [], ◌∷◌, ◌++◌, map, Option, Some, None, if◌then◌else◌}
+use Rattle.std.specs.Prelude.{◌≡◌, ℕ, ◌+◌, ◌<◌, List, [], ◌∷◌, ◌++◌, map, if◌then◌else◌}
 use Rattle.design_tree.specs.declared.leaves.Name.{Name}
 use Rattle.design_tree.specs.declared.statements.Operation.{Operation}
 use Rattle.design_tree.specs.declared.statements.Operation.TheVariants as O

@@ -1,7 +1,6 @@
 -- Names that are looked up and not declared.
-use Rattle.std.specs.Prelude.{ℕ, Option, Some, None, List, [], ◌∷◌, ◌++◌, map, flat_map, Contains, if◌then◌else◌}
+use Rattle.std.specs.Prelude.{ℕ, Option, Some, None, List, [], ◌∷◌, ◌++◌, flat_map, Contains, if◌then◌else◌}
 use Rattle.design_tree.specs.declared.leaves.Name.{Name}
-use Rattle.design_tree.specs.declared.leaves.Reference.{Reference}
 use Rattle.design_tree.specs.declared.expression.Expression.{Expression}
 use Rattle.design_tree.specs.declared.expression.Expression.TheOpen.{Expression-F}
 use Rattle.design_tree.specs.declared.expression.Expression.TheFolds.{fold-Expression}

@@ -13,7 +13,7 @@ use Rattle.design_tree.specs.declared.declarations.ModulePort.{ModulePort}
 use Rattle.name_tables.specs.Labels.{Label, Occurrence, label_at}
 use Rattle.name_tables.specs.Repeats.{IsUnknown}
 use Rattle.check_rules.specs.Scopes.{Scope, bundle_of, find_module}
-use Rattle.check_rules.specs.References.{named, part_label, reference_named, references_of, channels_of}
+use Rattle.check_rules.specs.References.{named, part_label, reference_named, references_of}
 use Rattle.check_rules.specs.DeclaredTwice.{IsRepeatInOne, port_named}
 use Rattle.check_rules.specs.Directions.{ports_of}
 

@@ -1,7 +1,6 @@
 //! The token that a text begins with.
-ghost use Rattle.std.specs.Prelude.{◌≡◌, ◌<◌, ◌≤◌, length, drop};
+ghost use Rattle.std.specs.Prelude.{◌≡◌, ◌<◌, ◌≤◌, length};
 ghost use Rattle.design_lex.specs.Tokens as spec;
-ghost use Rattle.design_lex.specs.Octet.{is_word_octet, is_hex_digit as is_hex};
 ghost use Rattle.std.specs.Char.{is_ascii_digit as is_digit};
 ghost use Rattle.std.specs.List.{list_all};
 

@@ -1,5 +1,5 @@
 -- The lists of places are those at which the rules are broken.
-use Rattle.std.proofs.Common.{◌≡◌, ℕ, List, [], ◌∷◌, ◌++◌, map, take, refl, ap, sym, ◌∙◌, subst}
+use Rattle.std.proofs.Common.{◌≡◌, ℕ, List, ◌++◌, map, take, refl, ap, sym, ◌∙◌, subst}
 use Rattle.std.specs.Prelude.{Option, Contains}
 use Rattle.std.specs.List.{flat_map}
 use Rattle.std.specs.Borrow.{Bor}
@@ -21,13 +21,13 @@ use Rattle.check_rules.specs.References.{named, channels_of, references_of, refe
 use Rattle.check_rules.specs.DeclaredTwice.{declaration_named, declaration_spaces, statement_spaces, scope_spaces, name_spaces, port_named, ids_of, IsRepeatInOne, BreaksDeclaredTwice}
 use Rattle.check_rules.specs.Counts.{statement_counts, scope_counts, BreaksCounts}
 use Rattle.check_rules.specs.Directions.{statement_directions, scope_directions, BreaksDirections}
-use Rattle.check_rules.specs.Uses.{bound_in, used_in, scope_uses, BreaksUsedTwice}
+use Rattle.check_rules.specs.Uses.{bound_in, scope_uses, BreaksUsedTwice}
 use Rattle.design_scopes.specs.declared.body.Body.{Body}
 use Rattle.design_scopes.specs.declared.declared.Declared.{Declared}
 use Rattle.design_scopes.specs.Resolving.{scope_in, AreDeclared}
 use Rattle.design_names.specs.ReferencePlaces.{body_wrong, implement_undeclared, body_undeclared}
 use Rattle.design_scopes.specs.Bodies.{referred, scope_of, AreBodies}
-use Rattle.design_names.specs.Places.{repeats_in, declaration_repeats, statement_repeats, own_named, body_ids, body_repeats, body_counts, binding_used, statement_used, body_used, statement_bound, body_uses}
+use Rattle.design_names.specs.Places.{repeats_in, declaration_repeats, statement_repeats, own_named, body_ids, body_repeats, body_counts, statement_used, body_used, statement_bound, body_uses}
 use Rattle.design_scopes.specs.Flat.{flat_map_flat, map_flat, flat_map_of_map, map_of_map, flat_map_same, contains_flat, flat_contains}
 
 now_of : Bor Statement → Statement

@@ -3,11 +3,7 @@ use Rattle.std.proofs.Common.{◌≡◌, ℕ, min, Bool, true, false, not, ◌&&
 use Rattle.std.specs.Prelude.{Option, Some, None, filter, if◌then◌else◌, Contains}
 use Rattle.std.specs.List.{flat_map, list_any}
 use Rattle.std.specs.Borrow.{Bor}
-use Rattle.std.proofs.lemmas.Grind.{flat_map-append}
 use Rattle.std.proofs.lemmas.List.{append-nil}
-use Rattle.design_tree.specs.declared.leaves.Name.{Name}
-use Rattle.design_tree.specs.declared.leaves.ApplicationId.{ApplicationId}
-use Rattle.design_tree.specs.declared.statements.Binding.{Binding}
 use Rattle.design_tree.specs.declared.statements.Statement.{Statement}
 use Rattle.design_tree.specs.declared.statements.Statement.TheVariants as S
 use Rattle.design_tree.specs.declared.declarations.Member.{Member}
@@ -20,18 +16,17 @@ use Rattle.name_tables.specs.Lists.{stands, missing}
 use Rattle.name_tables.specs.ListLaws.{missing_are, are_missing}
 use Rattle.name_tables.specs.PlaceLaws.{least_from-append, least_tells}
 use Rattle.check_rules.specs.Scopes.{Scope, scopes, bundle_of, find_module}
-use Rattle.check_rules.specs.References.{named, part_label, reference_named, references_of}
+use Rattle.check_rules.specs.References.{named, part_label}
 use Rattle.check_rules.specs.DeclaredTwice.{port_named}
 use Rattle.check_rules.specs.Directions.{ports_of}
-use Rattle.check_rules.specs.Uses.{is_out, is_in, members_of, part_at, declared_by, due_in, binds_due, scope_due, used_in, Due, BreaksUnused}
+use Rattle.check_rules.specs.Uses.{is_out, is_in, members_of, declared_by, binds_due, scope_due, used_in, Due, BreaksUnused}
 use Rattle.design_scopes.specs.declared.body.Body.{Body}
 use Rattle.design_scopes.specs.declared.declared.Declared.{Declared}
 use Rattle.design_scopes.specs.Bodies.{referred, scope_of, AreBodies}
 use Rattle.design_scopes.specs.Tables.{port_label}
-use Rattle.design_names.specs.Places.{statement_used, body_used}
 use Rattle.design_scopes.specs.Resolving.{scope_in, AreDeclared}
-use Rattle.design_names.specs.UnusedPlaces.{missing_one, members_unused, outs_unused, ins_unbound, binding_label, place_where, unused_by, unbound_by, used_labels, body_unused}
-use Rattle.design_scopes.specs.Flat.{flat_map_flat, map_flat, flat_map_of_map, map_of_map, flat_map_same, contains_flat, flat_contains, IsOf}
+use Rattle.design_names.specs.UnusedPlaces.{missing_one, binding_label, place_where, unused_by, unbound_by, used_labels, body_unused}
+use Rattle.design_scopes.specs.Flat.{flat_map_flat, flat_map_of_map, contains_flat, flat_contains}
 use Rattle.design_names.proofs.Walks.{least_three}
 use Rattle.design_names.proofs.RuleLaws.{used_of, same_scope}
 

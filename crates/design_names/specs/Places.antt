@@ -1,6 +1,5 @@
 -- The places at which the rules on names are broken, as lists over the walks' bodies.
 use Rattle.std.specs.Prelude.{ℕ, List, [], ◌∷◌, ◌++◌, map, flat_map}
-use Rattle.std.specs.Borrow.{Bor}
 use Rattle.design_tree.specs.declared.statements.Binding.{Binding}
 use Rattle.design_tree.specs.declared.statements.Statement.{Statement}
 use Rattle.design_tree.specs.declared.statements.Statement.TheVariants as S
@@ -8,7 +7,7 @@ use Rattle.design_tree.specs.declared.declarations.Declaration.{Declaration}
 use Rattle.name_tables.specs.Labels.{Occurrence}
 use Rattle.name_tables.specs.Lists.{repeats}
 use Rattle.check_rules.specs.References.{named, channels_of, operation_sources, reference_named}
-use Rattle.check_rules.specs.DeclaredTwice.{declaration_named, declaration_spaces, statement_spaces, port_named, ids_of}
+use Rattle.check_rules.specs.DeclaredTwice.{declaration_spaces, statement_spaces, port_named, ids_of}
 use Rattle.check_rules.specs.Counts.{statement_counts}
 use Rattle.check_rules.specs.Uses.{bound_in}
 use Rattle.design_scopes.specs.declared.body.Body.{Body}

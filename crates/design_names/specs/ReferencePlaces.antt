@@ -1,5 +1,5 @@
 -- The places of the rules on references, as lists over the walks' bodies.
-use Rattle.std.specs.Prelude.{ℕ, List, [], ◌∷◌, ◌++◌, map, flat_map}
+use Rattle.std.specs.Prelude.{ℕ, List, ◌++◌, flat_map}
 use Rattle.design_tree.specs.declared.leaves.Reference.{Reference}
 use Rattle.design_tree.specs.declared.statements.Binding.{Binding}
 use Rattle.design_tree.specs.declared.leaves.Name.{Name}

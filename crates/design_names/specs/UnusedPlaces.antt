@@ -1,8 +1,7 @@
 -- The places of what is not used, driven or bound, as lists over the walks' bodies.
-use Rattle.std.specs.Prelude.{ℕ, Bool, ◌&&◌, false, not, Option, Some, None, List, [], ◌∷◌, ◌++◌, map, flat_map, if◌then◌else◌}
+use Rattle.std.specs.Prelude.{ℕ, Bool, ◌&&◌, not, Option, List, [], ◌∷◌, ◌++◌, map, flat_map, if◌then◌else◌}
 use Rattle.std.specs.List.{list_any}
 use Rattle.std.specs.Borrow.{Bor}
-use Rattle.design_tree.specs.declared.leaves.Name.{Name}
 use Rattle.design_tree.specs.declared.leaves.ApplicationId.{ApplicationId}
 use Rattle.design_tree.specs.declared.statements.Binding.{Binding}
 use Rattle.design_tree.specs.declared.statements.Statement.{Statement}
@@ -18,7 +17,7 @@ use Rattle.check_rules.specs.Directions.{ports_of}
 use Rattle.check_rules.specs.Uses.{is_out, is_in, members_of}
 use Rattle.design_scopes.specs.declared.body.Body.{Body}
 use Rattle.design_scopes.specs.declared.declared.Declared.{Declared}
-use Rattle.design_scopes.specs.Tables.{port_label, name_label}
+use Rattle.design_scopes.specs.Tables.{port_label}
 use Rattle.design_names.specs.Places.{statement_used}
 use Rattle.design_scopes.specs.Resolving.{scope_in}
 

@@ -1,12 +1,11 @@
 //! Names that are declared twice.
-ghost use Rattle.std.specs.Prelude.{◌≡◌, ◌++◌, ◌∷◌, [], map, flat_map, IfOk, OnOk};
+ghost use Rattle.std.specs.Prelude.{◌≡◌, ◌++◌, map, flat_map, IfOk, OnOk};
 ghost use Rattle.name_tables.specs.FirstPlaces.{least, least_from};
 ghost use Rattle.name_tables.specs.Lists.{repeats};
 ghost use Rattle.name_tables.specs.Keys.{occurrence_of};
 ghost use Rattle.check_rules.specs.References.{named, channels_of};
 ghost use Rattle.check_rules.specs.DeclaredTwice.{declaration_named, member_named, service_port_named, port_named, ids_of, operation_spaces};
-ghost use Rattle.design_scopes.specs.Bodies.{referred};
-ghost use Rattle.design_names.specs.Places.{repeats_in, declaration_repeats, statement_repeats, body_repeats, own_named, body_ids};
+ghost use Rattle.design_names.specs.Places.{repeats_in, declaration_repeats, statement_repeats, body_repeats, own_named};
 
 use check_rules::keys::{declaration_mark, id_mark, name_mark};
 use design_scopes::body::Body;

@@ -1,9 +1,9 @@
 //! Names that are looked up and not declared.
-ghost use Rattle.std.specs.Prelude.{◌≡◌, ◌++◌, flat_map, IfOk, option_copied};
+ghost use Rattle.std.specs.Prelude.{◌≡◌, ◌++◌, flat_map, IfOk};
 ghost use Rattle.name_tables.specs.FirstPlaces.{least, least_from};
 ghost use Rattle.check_rules.specs.Scopes.{find_bundle, find_service, find_service_port, find_port};
 ghost use Rattle.check_rules.specs.References.{operation_sources as sources_by};
-ghost use Rattle.check_rules.specs.Undeclared.{look_up, no_more, service_undeclared, names_undeclared as names_undeclared_by, variables_undeclared, references_undeclared as references_undeclared_by, statement_undeclared};
+ghost use Rattle.check_rules.specs.Undeclared.{look_up, no_more, service_undeclared, names_undeclared as names_undeclared_by, references_undeclared as references_undeclared_by, statement_undeclared};
 ghost use Rattle.design_names.specs.ReferencePlaces.{reference_undeclared, binding_undeclared, body_undeclared, port_bundle_undeclared, bound_port_undeclared, implement_undeclared};
 
 use crate::variables::statement_variables;

@@ -7,9 +7,8 @@ ghost use Rattle.name_tables.specs.Keys.{label_of, occurrence_of};
 ghost use Rattle.name_tables.specs.Labels.{label_at};
 ghost use Rattle.check_rules.specs.References.{named, part_label};
 ghost use Rattle.check_rules.specs.DeclaredTwice.{port_named};
-ghost use Rattle.check_rules.specs.Uses.{is_out as out_test, is_in as in_test};
+ghost use Rattle.check_rules.specs.Uses.{is_out as out_test};
 ghost use Rattle.check_rules.specs.Directions.{ports_of};
-ghost use Rattle.design_scopes.specs.Tables.{port_label};
 ghost use Rattle.design_scopes.specs.Resolving.{scope_in};
 ghost use Rattle.design_names.specs.UnusedPlaces.{missing_one, members_unused, outs_unused, ins_unbound, binding_label, unused_by, unbound_by, body_unused, used_labels};
 

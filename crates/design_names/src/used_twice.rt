@@ -1,11 +1,11 @@
 //! What is used, driven or bound twice.
-ghost use Rattle.std.specs.Prelude.{◌≡◌, ◌++◌, ◌∷◌, [], map, flat_map, IfOk, OnOk};
+ghost use Rattle.std.specs.Prelude.{◌≡◌, ◌++◌, map, flat_map, IfOk, OnOk};
 ghost use Rattle.name_tables.specs.FirstPlaces.{least, least_from};
 ghost use Rattle.name_tables.specs.Lists.{repeats};
 ghost use Rattle.name_tables.specs.Keys.{occurrence_of};
 ghost use Rattle.check_rules.specs.References.{operation_sources, reference_named};
 ghost use Rattle.check_rules.specs.Uses.{binding_named};
-ghost use Rattle.design_names.specs.Places.{statement_used, binding_used, body_used, statement_bound, body_uses};
+ghost use Rattle.design_names.specs.Places.{statement_used, binding_used, statement_bound, body_uses};
 
 use check_rules::keys::{name_mark, reference_mark};
 use design_scopes::body::Body;

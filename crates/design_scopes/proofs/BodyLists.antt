@@ -1,15 +1,13 @@
 -- The bodies of modules and of the top are those of the design.
-use Rattle.std.proofs.Common.{◌≡◌, ℕ, suc, ◌+◌, ◌<◌, ◌≤◌, List, [], ◌∷◌, ◌++◌, map, length, get_or, take, refl, ap, sym, ◌∙◌, subst, append_assoc, arith}
+use Rattle.std.proofs.Common.{◌≡◌, ℕ, ◌+◌, ◌<◌, ◌≤◌, List, [], ◌∷◌, ◌++◌, map, length, get_or, take, refl, ap, sym, ◌∙◌, subst, append_assoc, arith}
 use Rattle.std.specs.List.{flat_map, take-map}
 use Rattle.std.proofs.Math.Seq.{take-append_seam}
 use Rattle.std.specs.Borrow.{Bor}
 use Rattle.std.proofs.lemmas.List.{map-append, map_more, length_push, length-map, length-take-le, take_all}
-use Rattle.design_tree.specs.declared.declarations.Bundle.{Bundle}
-use Rattle.design_tree.specs.declared.declarations.Service.{Service}
 use Rattle.design_tree.specs.declared.declarations.Module.{Module}
 use Rattle.design_tree.specs.declared.declarations.Declaration.{Declaration}
 use Rattle.design_tree.specs.declared.top.Top.{Top}
-use Rattle.check_rules.specs.Scopes.{Scope, bundles_of, services_of, modules_of, module_scope, module_scopes, top_scope, scopes, statement_in, implement_in}
+use Rattle.check_rules.specs.Scopes.{bundles_of, services_of, modules_of, module_scope, module_scopes, top_scope, statement_in, implement_in}
 use Rattle.design_scopes.specs.declared.body.Body.{Body}
 use Rattle.design_scopes.specs.Bodies.{referred, scope_of, IsBody, AreBodies, AreModuleBodies}
 

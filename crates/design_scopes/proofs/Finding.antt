@@ -1,5 +1,5 @@
 -- What is found by the index of its name is the first that has the name.
-use Rattle.std.proofs.Common.{◌≡◌, ℕ, zero, suc, ◌+◌, ◌-◌, ◌<◌, ◌≤◌, Bool, true, false, ◌⊎◌, inl, inr, List, [], ◌∷◌, ◌++◌, map, length, take, drop, refl, ap, sym, ◌∙◌, subst, append_assoc, arith}
+use Rattle.std.proofs.Common.{◌≡◌, ℕ, zero, suc, ◌+◌, ◌-◌, ◌<◌, ◌≤◌, Bool, true, false, ◌⊎◌, inl, inr, List, [], ◌∷◌, ◌++◌, map, length, take, drop, refl, ap, sym, ◌∙◌, append_assoc, arith}
 use Rattle.std.specs.Prelude.{Option, Some, None, find, slice_get, nat_lt, if◌then◌else◌}
 use Rattle.std.proofs.lemmas.List.{map-append, length-map, length_push, length-take, take-append-drop, drop_all}
 use Rattle.std.proofs.lemmas.Bool.{lt-ltb, ltb-true}

@@ -1,6 +1,6 @@
 -- Declarations are found by the index of their name.
-use Rattle.std.proofs.Common.{◌≡◌, ℕ, List, map, take, refl, ap, sym, ◌∙◌}
-use Rattle.std.specs.Prelude.{Option, Some, None, find, slice_get}
+use Rattle.std.proofs.Common.{◌≡◌, ℕ, List, map, take, ap, ◌∙◌}
+use Rattle.std.specs.Prelude.{Option, slice_get}
 use Rattle.design_tree.specs.declared.leaves.Name.{Name}
 use Rattle.design_tree.specs.declared.declarations.Member.{Member}
 use Rattle.design_tree.specs.declared.declarations.Bundle.{Bundle}

@@ -1,6 +1,6 @@
 -- What is found in the tables of a body is what its references refer to.
-use Rattle.std.proofs.Common.{◌≡◌, ℕ, zero, suc, ◌+◌, ◌<◌, ◌≤◌, Bool, true, false, ◌||◌, List, [], ◌∷◌, ◌++◌, map, length, take, refl, ap, sym, ◌∙◌, subst, append_assoc, arith}
-use Rattle.std.specs.Prelude.{Option, Some, None, is_some, option_map, option_copied, find, slice_get, if◌then◌else◌}
+use Rattle.std.proofs.Common.{◌≡◌, ℕ, zero, suc, ◌+◌, ◌<◌, ◌≤◌, Bool, true, false, ◌||◌, List, [], ◌∷◌, ◌++◌, map, length, refl, ap, sym, ◌∙◌, append_assoc, arith}
+use Rattle.std.specs.Prelude.{Option, Some, None, is_some, option_copied, slice_get, if◌then◌else◌}
 use Rattle.std.specs.List.{flat_map, list_any}
 use Rattle.std.specs.Borrow.{Bor}
 use Rattle.std.proofs.lemmas.List.{length-map, length_push}
@@ -9,20 +9,20 @@ use Rattle.design_tree.specs.declared.leaves.ApplicationId.{ApplicationId}
 use Rattle.design_tree.specs.declared.statements.Statement.{Statement}
 use Rattle.design_tree.specs.declared.statements.Statement.TheVariants as S
 use Rattle.design_tree.specs.declared.declarations.ModulePort.{ModulePort}
-use Rattle.name_tables.specs.Labels.{Label, same_label}
-use Rattle.name_tables.specs.Lists.{index_from, index_in, stands}
+use Rattle.name_tables.specs.Labels.{same_label}
+use Rattle.name_tables.specs.Lists.{index_from, index_in}
 use Rattle.name_tables.specs.ListLaws.{found_from}
 use Rattle.check_rules.specs.declared.referent.Resolution.{Resolution}
 use Rattle.check_rules.specs.declared.referent.Resolution.TheVariants.{To, Undeclared}
 use Rattle.check_rules.specs.declared.referent.Referent.TheVariants as K
-use Rattle.check_rules.specs.Scopes.{Scope, and_then, is_name, declares, find_id, find_port}
-use Rattle.check_rules.specs.References.{named, id_named, channels_of, port_referent, own_name, is_among}
+use Rattle.check_rules.specs.Scopes.{Scope, and_then, find_id, find_port}
+use Rattle.check_rules.specs.References.{named, id_named, channels_of, own_name, is_among}
 use Rattle.design_scopes.specs.declared.body.Body.{Body}
 use Rattle.design_scopes.specs.declared.body_names.BodyNames.{BodyNames}
 use Rattle.design_scopes.specs.declared.declared.Declared.{Declared}
 use Rattle.design_scopes.specs.Bodies.{referred}
 use Rattle.design_scopes.specs.Tables.{port_label, name_label}
-use Rattle.design_scopes.specs.Resolving.{scope_in, IsNamesOf, id_labels, id_owners, own_labels, own_of, own_at_index, port_or_channel}
+use Rattle.design_scopes.specs.Resolving.{scope_in, IsNamesOf, id_labels, id_owners, own_of, own_at_index, port_or_channel}
 use Rattle.design_scopes.proofs.Finding.{or_else, index_append, index_within, get_seam, get_past, find_named}
 use Rattle.design_scopes.specs.Flat.{map_flat, flat_map_of_map}
 

@@ -1,13 +1,11 @@
 -- Lists made of lists.
-use Rattle.std.proofs.Common.{◌≡◌, ℕ, List, [], ◌∷◌, ◌++◌, ◌⊎◌, inl, inr, map, refl, ap, sym, ◌∙◌, subst, append_assoc}
+use Rattle.std.proofs.Common.{◌≡◌, List, [], ◌∷◌, ◌++◌, inl, inr, map, refl, ap, sym, ◌∙◌, subst}
 use Rattle.std.specs.Prelude.{Contains}
 use Rattle.std.specs.List.{flat_map}
-use Rattle.std.specs.Borrow.{Bor}
 use Rattle.std.proofs.lemmas.Grind.{flat_map-append}
 use Rattle.std.proofs.lemmas.List.{map-append}
 use Rattle.std.proofs.lemmas.List.Elements.{Contains-append_left, Contains-append_right, Contains-append_cases}
 use Rattle.name_tables.specs.PlaceLaws.{contains_none, contains_here, contains_later, contains_cases}
-use Rattle.design_scopes.specs.Bodies.{referred}
 
 pub flat_map_flat : {A B C : Type 0} (F : B → List C) (G : A → List B) (xs : List A) → flat_map F (flat_map G xs) ≡ flat_map (λ x. flat_map F (G x)) xs
 flat_map_flat F G [] = refl

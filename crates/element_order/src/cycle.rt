@@ -1,6 +1,6 @@
 //! The first element that depends on itself.
 ghost use Rattle.std.specs.Prelude.{◌≡◌, ◌+◌, ◌<◌, ◌≤◌, ◌↔◌, [], true, false, All, IfOk, OnOk, IsTrue, IsSomeAnd, length, replicate};
-ghost use Rattle.element_order.specs.Orders.{AllBelow, needs_of};
+ghost use Rattle.element_order.specs.Orders.{AllBelow};
 ghost use Rattle.element_order.specs.Laws.{Depends, TellsFirst};
 ghost use Rattle.element_order.specs.Reached.{AreClear, IsTurn, with_marks, seen_with, waiting_with, all_seen, all_waiting};
 

@@ -1,5 +1,5 @@
 -- Words that begin with a row's word run the command of that row, and of no other.
-use Rattle.std.proofs.Common.{◌≡◌, zero, suc, ℕ, ◌∷◌, [], List, Bool, true, false, if◌then◌else◌, String, ◌-◌, refl, sym, ◌∙◌, ap, subst, inl, inr, arith}
+use Rattle.std.proofs.Common.{◌≡◌, zero, suc, ℕ, ◌∷◌, [], List, Bool, true, false, if◌then◌else◌, ◌-◌, refl, sym, ◌∙◌, ap, subst, inl, inr, arith}
 use Rattle.std.specs.Str.{bytes_eq}
 use Rattle.std.proofs.lemmas.Slice.Eq.{bytes_eq-Decides}
 use Rattle.command_runs.specs.declared.outcome.Outcome.{Outcome}

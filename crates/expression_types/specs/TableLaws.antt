@@ -23,7 +23,7 @@ use Rattle.expression_types.specs.Typing.{Typing, made, value_width, number_type
 use Rattle.expression_types.specs.MeaningLaws.{bound}
 use Rattle.expression_types.specs.RowLaws.{with_none, with_one, with_two, with_three, parts_in, level_row, row_found, row_given}
 use Rattle.expression_types.specs.Rows as R
-use Rattle.expression_types.specs.Rows.{level_operands, operands, place_step, first_octet, type_of_typed, formula_of_typed, Row, HasType, IsMisfit}
+use Rattle.expression_types.specs.Rows.{level_operands, operands, place_step, first_octet, type_of_typed, formula_of_typed, HasType, IsMisfit}
 
 -- ---- what the operands of an expression give, from left to right
 

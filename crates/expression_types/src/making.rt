@@ -1,6 +1,5 @@
 //! Structs of their fields, and arrays of their elements.
 ghost use Rattle.std.specs.Prelude.{◌≡◌, map, OnOk};
-ghost use Rattle.std.specs.Option.{option_map};
 ghost use Rattle.esi_base.specs.Answers.{AnswersAs};
 ghost use Rattle.expression_types.specs.Views.{type_in, typed_in, parts_in};
 ghost use Rattle.expression_types.specs.Typing.{no_parts, with_part, make_of, join_of, fields_given, elements_given};

@@ -1,5 +1,5 @@
 //! Variables of expressions.
-ghost use Rattle.std.specs.Prelude.{◌≡◌, ◌≤◌, length, map};
+ghost use Rattle.std.specs.Prelude.{◌≤◌, length, map};
 ghost use Rattle.esi_base.specs.Answers.{AnswersAs};
 ghost use Rattle.expression_types.specs.Views.{variable_in, typed_in};
 ghost use Rattle.expression_types.specs.Typing.{variable_from};

@@ -2,7 +2,7 @@
 ghost use Rattle.std.specs.Prelude.{◌≡◌, [], IfOk};
 ghost use Rattle.h2_history.specs.declared.verdict.Verdict.TheVariants.{ConnectionError as connection_error};
 ghost use Rattle.h2_layouts.specs.declared.code.TheConstants.{ENHANCE_YOUR_CALM};
-ghost use Rattle.h2_history.specs.Blocks.{block_begun, is_too_long, has_all_frames, code_of_rule, first_list, trailers, list_verdict, row_wanted, begun_by_row, seen_by_list, completed_with, completed, fragment_read, continuation_read};
+ghost use Rattle.h2_history.specs.Blocks.{is_too_long, has_all_frames, code_of_rule, first_list, trailers, list_verdict, row_wanted, seen_by_list, completed, fragment_read, continuation_read};
 ghost use Rattle.h2_streams.specs.Decoding.{Decodes};
 
 use crate::conn::Conn;

@@ -1,6 +1,6 @@
 //! What a frame does that is read.
 ghost use Rattle.std.specs.Prelude.{◌≡◌, IfOk, None as none};
-ghost use Rattle.h2_history.specs.Frames.{counted, data_seen, opened_if_room, headers_opens, reset_seen, update_seen, goaway_seen, continued_outcome, frame_read};
+ghost use Rattle.h2_history.specs.Frames.{counted, data_seen, headers_opens, goaway_seen, continued_outcome, frame_read};
 ghost use Rattle.h2_streams.specs.Told.{told_of_list, told_of_headers};
 ghost use Rattle.h2_layouts.specs.declared.frame.Frame.TheVariants as frames;
 

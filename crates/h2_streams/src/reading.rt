@@ -1,6 +1,5 @@
 //! Reading, turn by turn.
-ghost use Rattle.std.specs.Prelude.{◌≡◌, IfOk, OnErr, IsTrue};
-ghost use Rattle.h2_history.specs.History.{turn_of};
+ghost use Rattle.std.specs.Prelude.{IfOk};
 ghost use Rattle.h2_streams.specs.Polling.{Turns, Polls, Runs};
 
 use crate::conn::Conn;

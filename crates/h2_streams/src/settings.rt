@@ -1,6 +1,6 @@
 //! The peer's settings (RFC 9113, section 6.5).
 ghost use Rattle.std.specs.Prelude.{◌≡◌, not, if◌then◌else◌};
-ghost use Rattle.h2_history.specs.Settings.{Settled, with_setting, breaks_windows, settled};
+ghost use Rattle.h2_history.specs.Settings.{with_setting, breaks_windows, settled};
 
 use crate::conn::Conn;
 use h2_history::Verdict;

@@ -1,12 +1,12 @@
 -- A map that says of each name where it stands first, with one name more.
-use Rattle.std.proofs.Common.{◌≡◌, ℕ, ◌+◌, ◌<◌, ◌≤◌, Bool, true, false, not, ◌||◌, List, [], ◌∷◌, ◌++◌, map, length, get_or, take, refl, ap, sym, ◌∙◌, subst, arith}
+use Rattle.std.proofs.Common.{◌≡◌, ℕ, ◌+◌, ◌<◌, Bool, true, false, List, [], ◌∷◌, ◌++◌, map, length, get_or, take, refl, ap, sym, ◌∙◌, arith}
 use Rattle.std.specs.Prelude.{Option, Some, None, is_some, if◌then◌else◌}
 use Rattle.std.specs.BTreeMap.{BTreeMap, Updates}
 use Rattle.std.proofs.lemmas.List.{map_more, length-map, length-take-le}
 use Rattle.name_tables.specs.declared.key.Key.{Key}
 use Rattle.name_tables.specs.contracts.key.KeyOrd.TheImpl.{cmp-value}
 use Rattle.name_tables.specs.Labels.{Label, same_label}
-use Rattle.name_tables.specs.LabelLaws.{same_label-one, same_label-refl, same_label-sym}
+use Rattle.name_tables.specs.LabelLaws.{same_label-one, same_label-sym}
 use Rattle.name_tables.specs.Lists.{index_from, index_in}
 use Rattle.name_tables.specs.Keys.{label_of}
 use Rattle.name_tables.specs.Tables.{found_in, IsTable}

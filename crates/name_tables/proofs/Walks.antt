@@ -1,16 +1,16 @@
 -- A walk over marks that puts each name into a set.
 use Rattle.std.proofs.Common.{◌≡◌, ℕ, suc, ◌+◌, ◌<◌, ◌≤◌, Bool, true, false, not, ◌||◌, List, [], ◌∷◌, ◌++◌, map, length, get_or, take, drop, refl, ap, sym, ◌∙◌, subst, drop-cons, arith}
-use Rattle.std.specs.Prelude.{Option, Some, None, if◌then◌else◌}
+use Rattle.std.specs.Prelude.{Option, if◌then◌else◌}
 use Rattle.std.specs.BTreeSet.{BTreeSet, contains, Updates}
-use Rattle.std.proofs.lemmas.List.{map-append, map_more, drop_all}
+use Rattle.std.proofs.lemmas.List.{map_more, drop_all}
 use Rattle.name_tables.specs.declared.key.Key.{Key}
 use Rattle.name_tables.specs.declared.key.Mark.{Mark}
 use Rattle.name_tables.specs.contracts.key.KeyOrd.TheImpl.{cmp-value}
-use Rattle.name_tables.specs.Labels.{Label, Occurrence, label_at, same_label}
+use Rattle.name_tables.specs.Labels.{Label, Occurrence, same_label}
 use Rattle.name_tables.specs.Lists.{stands, repeats, repeats_after}
 use Rattle.name_tables.specs.LabelLaws.{same_label-sym}
 use Rattle.name_tables.specs.ListLaws.{stands-append}
-use Rattle.name_tables.specs.FirstPlaces.{earlier, least_from, found_after}
+use Rattle.name_tables.specs.FirstPlaces.{least_from, found_after}
 use Rattle.name_tables.specs.PlaceLaws.{least_from-append}
 use Rattle.name_tables.specs.Keys.{label_of, occurrence_of}
 use Rattle.name_tables.proofs.KeyOrder.{compare_same}

@@ -1,5 +1,5 @@
 -- The first place at which a rule is broken.
-use Rattle.std.specs.Prelude.{◌≡◌, ℕ, ◌≤◌, Bool, if◌then◌else◌, Option, Some, None, List, [], ◌∷◌, min}
+use Rattle.std.specs.Prelude.{ℕ, ◌≤◌, Bool, if◌then◌else◌, Option, Some, None, List, [], ◌∷◌, min}
 
 -- The rule is broken at the place, and at none before it.
 pub record IsFirstPlace (Broken : ℕ → Type 0) (at : ℕ) : Type 0 where

@@ -1,5 +1,5 @@
 -- The names that keys and marks are.
-use Rattle.std.specs.Prelude.{ℕ, List, option_copied}
+use Rattle.std.specs.Prelude.{option_copied}
 use Rattle.name_tables.specs.declared.key.Key.{Key}
 use Rattle.name_tables.specs.declared.key.Mark.{Mark}
 use Rattle.name_tables.specs.Labels.{Label, Occurrence}

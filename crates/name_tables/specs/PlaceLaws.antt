@@ -1,8 +1,8 @@
 -- The least of the places at which a rule is broken is what has to be reported.
-use Rattle.std.proofs.Common.{◌≡◌, ℕ, ◌≤◌, ◌<◌, min, List, [], ◌∷◌, ◌++◌, ◌↔◌, ◌⊎◌, inl, inr, refl, ap, sym, ◌∙◌, subst, arith}
+use Rattle.std.proofs.Common.{◌≡◌, ℕ, ◌≤◌, min, List, [], ◌∷◌, ◌++◌, ◌⊎◌, inl, inr, refl, sym, ◌∙◌, subst, arith}
 use Rattle.std.specs.Prelude.{Option, Some, None, Contains}
-use Rattle.std.proofs.lemmas.List.Elements.{Contains-append_left, Contains-append_right, Contains-append_cases, Contains-push_cases}
-use Rattle.name_tables.specs.FirstPlaces.{IsFirstPlace, Nowhere, Reports, earlier, least_from, least}
+use Rattle.std.proofs.lemmas.List.Elements.{Contains-append_right, Contains-append_cases, Contains-push_cases}
+use Rattle.name_tables.specs.FirstPlaces.{Reports, earlier, least_from, least}
 
 -- ---- what stands in a list
 

@@ -3,7 +3,6 @@ use Rattle.std.specs.Prelude.{◌≡◌, ℕ, Option, List, map}
 use Rattle.std.specs.BTreeMap.{BTreeMap, get}
 use Rattle.name_tables.specs.declared.key.Key.{Key}
 use Rattle.name_tables.specs.contracts.key.KeyOrd.TheImpl.{cmp-value}
-use Rattle.name_tables.specs.Labels.{Label}
 use Rattle.name_tables.specs.Lists.{index_in}
 use Rattle.name_tables.specs.Keys.{label_of}
 

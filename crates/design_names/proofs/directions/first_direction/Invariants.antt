@@ -1,8 +1,7 @@
 use Rattle.std.proofs.Common.{◌≡◌, take}
 use Rattle.std.specs.List.{flat_map}
-use Rattle.name_tables.specs.FirstPlaces.{least, least_from}
-use Rattle.check_rules.specs.Directions.{statement_directions}
-use Rattle.design_names.specs.ReferencePlaces.{binding_wrong, binding_out, body_wrong}
+use Rattle.name_tables.specs.FirstPlaces.{least}
+use Rattle.design_names.specs.ReferencePlaces.{body_wrong}
 use Rattle.design_names.proofs.directions.first_direction.Given as goal
 
 abbrev pub invariant-loop-body : goal.invariant-loop-body

@@ -1,8 +1,7 @@
 use Rattle.std.proofs.Common.{◌≡◌, take}
 use Rattle.std.specs.List.{flat_map}
-use Rattle.name_tables.specs.FirstPlaces.{least, least_from}
-use Rattle.check_rules.specs.Directions.{statement_directions}
-use Rattle.design_names.specs.ReferencePlaces.{binding_wrong, binding_out, body_wrong}
+use Rattle.name_tables.specs.FirstPlaces.{least_from}
+use Rattle.design_names.specs.ReferencePlaces.{binding_out}
 use Rattle.design_names.proofs.directions.outs_of_module.Given as goal
 
 abbrev pub invariant-loop-binding : goal.invariant-loop-binding

@@ -1,8 +1,7 @@
 use Rattle.std.proofs.Common.{◌≡◌, take}
 use Rattle.std.specs.List.{flat_map}
-use Rattle.name_tables.specs.FirstPlaces.{least, least_from}
-use Rattle.check_rules.specs.Undeclared.{service_undeclared, statement_undeclared}
-use Rattle.design_names.specs.ReferencePlaces.{binding_undeclared, body_undeclared, port_bundle_undeclared, bound_port_undeclared, implement_undeclared}
+use Rattle.name_tables.specs.FirstPlaces.{least_from}
+use Rattle.design_names.specs.ReferencePlaces.{binding_undeclared}
 use Rattle.design_names.proofs.undeclared.undeclared_bindings.Given as goal
 
 abbrev pub invariant-loop-binding : goal.invariant-loop-binding

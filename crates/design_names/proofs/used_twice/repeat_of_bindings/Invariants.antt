@@ -1,9 +1,6 @@
-use Rattle.std.proofs.Common.{◌≡◌, ◌++◌, map, take}
-use Rattle.std.specs.List.{flat_map}
-use Rattle.name_tables.specs.FirstPlaces.{least, least_from}
+use Rattle.std.proofs.Common.{◌≡◌, map, take}
 use Rattle.name_tables.specs.Keys.{occurrence_of}
 use Rattle.check_rules.specs.Uses.{binding_named}
-use Rattle.design_names.specs.Places.{statement_used, binding_used, statement_bound, body_uses}
 use Rattle.design_names.proofs.used_twice.repeat_of_bindings.Given as goal
 
 abbrev pub invariant-loop-binding : goal.invariant-loop-binding

@@ -1,4 +1,3 @@
-use Rattle.std.proofs.Common.{rules}
 use Rattle.design_scopes.proofs.BodyLists.{bodies_next}
 use Rattle.design_scopes.proofs.bodies.add_modules.Goals as goal
 

@@ -1,5 +1,4 @@
-use Rattle.std.proofs.Common.{subst, sym, ap, map, length, ◌∙◌}
-use Rattle.std.proofs.lemmas.List.{length-map}
+use Rattle.std.proofs.Common.{subst, sym, map, length, ◌∙◌}
 use Rattle.design_scopes.specs.Bodies.{referred, AreBodies, AreModuleBodies}
 use Rattle.design_scopes.proofs.BodyLists.{bodies_are, many_referred}
 use Rattle.design_scopes.proofs.bodies.bodies_of.Goals as goal

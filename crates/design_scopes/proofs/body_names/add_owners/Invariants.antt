@@ -1,9 +1,7 @@
 use Rattle.std.proofs.Common.{◌≡◌, ◌++◌, map, take}
 use Rattle.std.specs.List.{flat_map}
 use Rattle.name_tables.specs.Keys.{label_of}
-use Rattle.check_rules.specs.References.{channels_of}
 use Rattle.design_scopes.specs.Bodies.{referred}
-use Rattle.design_scopes.specs.Tables.{port_label, name_label}
 use Rattle.design_scopes.specs.Resolving.{id_labels, id_owners}
 use Rattle.design_scopes.proofs.body_names.add_owners.Given as goal
 

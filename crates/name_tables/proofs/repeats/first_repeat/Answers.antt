@@ -1,4 +1,4 @@
-use Rattle.std.proofs.Common.{◌≡◌, ◌+◌, sym, subst}
+use Rattle.std.proofs.Common.{◌+◌, sym, subst}
 use Rattle.name_tables.proofs.Walks.{RepeatWalk, repeat_more}
 use Rattle.name_tables.proofs.repeats.first_repeat.Goals as goal
 

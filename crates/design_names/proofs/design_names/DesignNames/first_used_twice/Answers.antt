@@ -1,9 +1,8 @@
-use Rattle.std.proofs.Common.{◌≡◌, ◌++◌, map, subst, ap, ◌∙◌}
+use Rattle.std.proofs.Common.{subst, ap, ◌∙◌}
 use Rattle.std.specs.Prelude.{IfOk}
 use Rattle.std.specs.List.{flat_map}
 use Rattle.design_names.proofs.Walks.{if_ok_then}
 use Rattle.name_tables.specs.FirstPlaces.{Reports, least}
-use Rattle.name_tables.specs.Lists.{repeats}
 use Rattle.check_rules.specs.Uses.{BreaksUsedTwice}
 use Rattle.design_names.specs.Places.{body_uses}
 use Rattle.design_scopes.specs.Bodies.{bodies_in}
