@@ -19,21 +19,21 @@ pub record Story : Type 0 where
 abbrev pub no_story : Story
 no_story = record { opened = false; there = false; here = false; closed = false }
 
-abbrev pub tell : ℕ → Mark → Story → Story
-tell asked mark story = record {
+abbrev pub story_after : ℕ → Mark → Story → Story
+story_after asked mark story = record {
   opened = is_opening asked mark || story.opened;
   there = is_end_there asked mark || story.there;
   here = is_end_here asked mark || story.here;
   closed = is_closing asked mark || story.closed;
 }
 
-abbrev pub tells : ℕ → List Mark → Story → Story
-tells asked [] story = story
-tells asked (mark ∷ marks) story = tells asked marks (tell asked mark story)
+abbrev pub story_after_all : ℕ → List Mark → Story → Story
+story_after_all asked [] story = story
+story_after_all asked (mark ∷ marks) story = story_after_all asked marks (story_after asked mark story)
 
-pub told_joined : (asked : ℕ) (first rest : List Mark) (story : Story) → tells asked (first ++ rest) story ≡ tells asked rest (tells asked first story)
-told_joined asked [] rest story = refl
-told_joined asked (mark ∷ first) rest story = told_joined asked first rest (tell asked mark story)
+pub story_joined : (asked : ℕ) (first rest : List Mark) (story : Story) → story_after_all asked (first ++ rest) story ≡ story_after_all asked rest (story_after_all asked first story)
+story_joined asked [] rest story = refl
+story_joined asked (mark ∷ first) rest story = story_joined asked first rest (story_after asked mark story)
 
 swapped : (a b c : Bool) → (b || (a || c)) ≡ ((a || b) || c)
 swapped true true c = refl
@@ -52,10 +52,10 @@ four : (a b c d e f g h : Bool) → a ≡ e → b ≡ f → c ≡ g → d ≡ h
     → let x : Story = record { opened = a; there = b; here = c; closed = d } in let y : Story = record { opened = e; there = f; here = g; closed = h } in x ≡ y
 four a b c d e f g h p q r s = cc
 
-pub story_asked : (asked : ℕ) (marks : List Mark) (story : Story) → tells asked marks story ≡ asked_of asked marks story
+pub story_asked : (asked : ℕ) (marks : List Mark) (story : Story) → story_after_all asked marks story ≡ asked_of asked marks story
 story_asked asked [] story = refl
 story_asked asked (mark ∷ marks) story =
-    story_asked asked marks (tell asked mark story)
+    story_asked asked marks (story_after asked mark story)
     ∙ four (was_opened asked marks || (is_opening asked mark || story.opened)) (was_ended_there asked marks || (is_end_there asked mark || story.there)) (was_ended_here asked marks || (is_end_here asked mark || story.here)) (was_closed asked marks || (is_closing asked mark || story.closed))
     (was_opened asked (mark ∷ marks) || story.opened) (was_ended_there asked (mark ∷ marks) || story.there) (was_ended_here asked (mark ∷ marks) || story.here) (was_closed asked (mark ∷ marks) || story.closed)
     (swapped (is_opening asked mark) (was_opened asked marks) story.opened) (swapped (is_end_there asked mark) (was_ended_there asked marks) story.there) (swapped (is_end_here asked mark) (was_ended_here asked marks) story.here) (swapped (is_closing asked mark) (was_closed asked marks) story.closed)
@@ -164,7 +164,7 @@ FitsStory asked story rows greatest = Fits asked story.opened story.there story.
 
 -- END_STREAM of this end, or of the peer, on a stream that the other one has ended
 pub here_closes : (asked k : ℕ) (story : Story) (rows : List OpenStream) (g : ℕ) (row : OpenStream) → row_of k rows ≡ Some row → row.peer_ended ≡ true
-    → FitsStory asked story rows g → FitsStory asked (tell asked (EndsHere k) story) (without_stream k rows) g
+    → FitsStory asked story rows g → FitsStory asked (story_after asked (EndsHere k) story) (without_stream k rows) g
 here_closes asked k story rows g row found peer fits =
     elim (eqb_tells k asked) [
       | inl e ↦
@@ -177,7 +177,7 @@ here_closes asked k story rows g row found peer fits =
     ]
 
 pub there_closes : (asked k : ℕ) (story : Story) (rows : List OpenStream) (g : ℕ) (row : OpenStream) → row_of k rows ≡ Some row → row.here_ended ≡ true
-    → FitsStory asked story rows g → FitsStory asked (tell asked (EndsThere k) story) (without_stream k rows) g
+    → FitsStory asked story rows g → FitsStory asked (story_after asked (EndsThere k) story) (without_stream k rows) g
 there_closes asked k story rows g row found here fits =
     elim (eqb_tells k asked) [
       | inl e ↦
@@ -191,7 +191,7 @@ there_closes asked k story rows g row found here fits =
 
 -- and on one that it has not
 pub here_stays : (asked k : ℕ) (story : Story) (rows : List OpenStream) (g : ℕ) (row : OpenStream) → row_of k rows ≡ Some row → row.peer_ended ≡ false
-    → FitsStory asked story rows g → FitsStory asked (tell asked (EndsHere k) story) (with_row (record row { here_ended = true }) rows) g
+    → FitsStory asked story rows g → FitsStory asked (story_after asked (EndsHere k) story) (with_row (record row { here_ended = true }) rows) g
 here_stays asked k story rows g row found peer fits =
     let named : row.stream ≡ k = row_of-named k rows row found in
     let new : OpenStream = record row { here_ended = true } in
@@ -207,7 +207,7 @@ here_stays asked k story rows g row found peer fits =
     ]
 
 pub there_stays : (asked k : ℕ) (story : Story) (rows : List OpenStream) (g : ℕ) (row : OpenStream) → row_of k rows ≡ Some row → row.here_ended ≡ false
-    → FitsStory asked story rows g → FitsStory asked (tell asked (EndsThere k) story) (with_row (record row { peer_ended = true }) rows) g
+    → FitsStory asked story rows g → FitsStory asked (story_after asked (EndsThere k) story) (with_row (record row { peer_ended = true }) rows) g
 there_stays asked k story rows g row found here fits =
     let named : row.stream ≡ k = row_of-named k rows row found in
     let new : OpenStream = record row { peer_ended = true } in
@@ -245,7 +245,7 @@ closes_none asked k story rows g none fits =
       | inr e ↦ removed_other asked k story.opened story.there story.here story.closed rows g e.1 fits
     ]
 
-closes_row_found : (asked k : ℕ) (story : Story) (rows : List OpenStream) (g : ℕ) (row : OpenStream) → row_of k rows ≡ Some row → FitsStory asked story rows g → FitsStory asked (tell asked (Closes k) story) (without_stream k rows) g
+closes_row_found : (asked k : ℕ) (story : Story) (rows : List OpenStream) (g : ℕ) (row : OpenStream) → row_of k rows ≡ Some row → FitsStory asked story rows g → FitsStory asked (story_after asked (Closes k) story) (without_stream k rows) g
 closes_row_found asked k story rows g row found fits =
     elim (eqb_tells k asked) [
       | inl e ↦ subst (λ (b : Bool). Fits asked story.opened story.there story.here (b || story.closed) (without_stream k rows) g) (sym e.0)
@@ -254,11 +254,11 @@ closes_row_found asked k story rows g row found fits =
           (removed_other asked k story.opened story.there story.here story.closed rows g e.1 fits)
     ]
 
-closes_by : (asked k : ℕ) (story : Story) (rows : List OpenStream) (g : ℕ) (row : Option OpenStream) → row_of k rows ≡ row → FitsStory asked story rows g → FitsStory asked (tells asked (if_open row (Closes k)) story) (without_stream k rows) g
+closes_by : (asked k : ℕ) (story : Story) (rows : List OpenStream) (g : ℕ) (row : Option OpenStream) → row_of k rows ≡ row → FitsStory asked story rows g → FitsStory asked (story_after_all asked (if_open row (Closes k)) story) (without_stream k rows) g
 closes_by asked k story rows g None found fits = closes_none asked k story rows g found fits
 closes_by asked k story rows g (Some row) found fits = closes_row_found asked k story rows g row found fits
 
-pub closes : (asked k : ℕ) (story : Story) (rows : List OpenStream) (g : ℕ) → FitsStory asked story rows g → FitsStory asked (tells asked (marks_closed k rows) story) (without_stream k rows) g
+pub closes : (asked k : ℕ) (story : Story) (rows : List OpenStream) (g : ℕ) → FitsStory asked story rows g → FitsStory asked (story_after_all asked (marks_closed k rows) story) (without_stream k rows) g
 closes asked k story rows g fits = closes_by asked k story rows g (row_of k rows) refl fits
 
 -- GOAWAY of this end
@@ -267,10 +267,10 @@ or_twice true true c row rest e = refl
 or_twice false true c row rest e = refl
 or_twice x false c row rest e = ap (λ (y : Bool). y || c) e
 
-pub all_closed : (asked : ℕ) (rows : List OpenStream) (story : Story) → tells asked (map closes_row rows) story ≡ record { opened = story.opened; there = story.there; here = story.here; closed = is_some (row_of asked rows) || story.closed }
+pub all_closed : (asked : ℕ) (rows : List OpenStream) (story : Story) → story_after_all asked (map closes_row rows) story ≡ record { opened = story.opened; there = story.there; here = story.here; closed = is_some (row_of asked rows) || story.closed }
 all_closed asked [] story = refl
 all_closed asked (row ∷ rows) story =
-    all_closed asked rows (tell asked (closes_row row) story)
+    all_closed asked rows (story_after asked (closes_row row) story)
     ∙ four story.opened story.there story.here (is_some (row_of asked rows) || (eqb row.stream asked || story.closed)) story.opened story.there story.here (is_some (row_of asked (row ∷ rows)) || story.closed) refl refl refl
     (or_twice (is_some (row_of asked rows)) (eqb row.stream asked) story.closed row (row_of asked rows) refl)
 
@@ -286,7 +286,7 @@ ends_fit asked story rows g fits = record {
   fresh = λ above. let none : row_of asked rows ≡ None = fits.below asked above in let is = fits.fresh above in (is.0, is.1, is.2, ap (λ (r : Option OpenStream). is_some r || story.closed) none ∙ is.3);
 }
 
-pub ends_all : (asked : ℕ) (story : Story) (rows : List OpenStream) (g : ℕ) → FitsStory asked story rows g → FitsStory asked (tells asked (map closes_row rows) story) [] g
+pub ends_all : (asked : ℕ) (story : Story) (rows : List OpenStream) (g : ℕ) → FitsStory asked story rows g → FitsStory asked (story_after_all asked (map closes_row rows) story) [] g
 ends_all asked story rows g fits = subst (λ (x : Story). FitsStory asked x [] g) (sym (all_closed asked rows story)) (ends_fit asked story rows g fits)
 
 -- HEADERS of a stream above the greatest
@@ -333,7 +333,7 @@ refused_other asked k o t h c rows g above ne fits = record {
   fresh = λ more. fits.fresh (omega (arith, above, more));
 }
 
-opens_by : (b : Bool) (asked k : ℕ) (story : Story) (rows : List OpenStream) (g : ℕ) → g < k → FitsStory asked story rows g → FitsStory asked (tells asked (cond b (Opens k ∷ []) (Opens k ∷ Closes k ∷ [])) story) (cond b (rows ++ new_row k ∷ []) rows) k
+opens_by : (b : Bool) (asked k : ℕ) (story : Story) (rows : List OpenStream) (g : ℕ) → g < k → FitsStory asked story rows g → FitsStory asked (story_after_all asked (cond b (Opens k ∷ []) (Opens k ∷ Closes k ∷ [])) story) (cond b (rows ++ new_row k ∷ []) rows) k
 opens_by true asked k story rows g above fits =
     elim (eqb_tells k asked) [
       | inl e ↦ subst (λ (b : Bool). Fits asked (b || story.opened) story.there story.here story.closed (rows ++ new_row k ∷ []) k) (sym e.0)
@@ -349,5 +349,5 @@ opens_by false asked k story rows g above fits =
           (refused_other asked k story.opened story.there story.here story.closed rows g above e.1 fits)
     ]
 
-pub opens : (asked k : ℕ) (story : Story) (rows : List OpenStream) (g : ℕ) → g < k → FitsStory asked story rows g → FitsStory asked (tells asked (marks_opening k rows) story) (after_opening k rows) k
+pub opens : (asked k : ℕ) (story : Story) (rows : List OpenStream) (g : ℕ) → g < k → FitsStory asked story rows g → FitsStory asked (story_after_all asked (marks_opening k rows) story) (after_opening k rows) k
 opens asked k story rows g above fits = opens_by (ltb (length rows) OPEN_STREAMS) asked k story rows g above fits

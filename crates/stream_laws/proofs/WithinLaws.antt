@@ -19,7 +19,7 @@ use Rattle.h2_history.specs.Puts.{Put, out, fits, goaway, offered, placed, place
 use Rattle.h2_history.specs.Puts.Put.{Plain, Headers}
 use Rattle.h2_history.specs.RunLaws.{after_joined, step_stands, run_stands}
 use Rattle.h2_history.specs.Runs.{Call, Step, IsRun, quiet_entries, data_put}
-use Rattle.h2_history.specs.Runs.Call.{Feed, Tell, Rest, Offer, Send, Take}
+use Rattle.h2_history.specs.Runs.Call.{Feed, Report, Rest, Offer, Send, Take}
 use Rattle.h2_history.specs.Settings.{settled}
 use Rattle.h2_history.specs.Standing.{Standing, may_put, first_standing}
 use Rattle.h2_history.specs.Verdicts.{owed, update_due, data_verdict, headers_verdict, reset_verdict, update_verdict}
@@ -162,12 +162,12 @@ within_at entries others s e within = subst (λ (l : List Entry). AreWithin l s)
 least_within : (n stream : ℕ) (s : Standing) → n ≤ may_put stream s → n ≤ may_send stream s.flow
 least_within n stream s within = omega (arith, within)
 
-tell_none : (turns : List Standing) (old last : Standing) → PutsNoData (quiet_entries old turns ++ turn_entries last)
-tell_none turns old last = entries_none (quiet_entries old turns) (turn_entries last) (quiet_none turns old) (by_none last.broken last)
+report_none : (turns : List Standing) (old last : Standing) → PutsNoData (quiet_entries old turns ++ turn_entries last)
+report_none turns old last = entries_none (quiet_entries old turns) (turn_entries last) (quiet_none turns old) (by_none last.broken last)
 
 after_call : (call : Call) (calls : List Call) → SendsByWindow (call ∷ calls) → SendsByWindow calls
 after_call (Feed octets) calls sends = sends
-after_call (Tell event) calls sends = sends
+after_call (Report event) calls sends = sends
 after_call Rest calls sends = sends
 after_call (Offer puts) calls sends = sends.1
 after_call (Send stream octets) calls sends = sends
@@ -175,9 +175,9 @@ after_call (Take octets) calls sends = sends
 
 step_within : (call : Call) (calls : List Call) (old : Standing) (entries : List Entry) (new : Standing) → SendsByWindow (call ∷ calls) → Step old call entries new → AreWithin entries old
 step_within (Feed octets) calls old entries new sends step = within_at entries (Fed octets ∷ []) old step.0 tt
-step_within (Tell event) calls old entries new sends step =
+step_within (Report event) calls old entries new sends step =
     let others : List Entry = quiet_entries old step.0.reaches.turns ++ turn_entries step.0.last in
-    within_at entries others old step.1 (none_within others old (tell_none step.0.reaches.turns old step.0.last))
+    within_at entries others old step.1 (none_within others old (report_none step.0.reaches.turns old step.0.last))
 step_within Rest calls old entries new sends step =
     let others : List Entry = quiet_entries old step.0.reaches.turns in
     within_at entries others old step.1 (none_within others old (quiet_none step.0.reaches.turns old))
