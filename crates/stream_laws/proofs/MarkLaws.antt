@@ -33,8 +33,8 @@ use Rattle.stream_laws.specs.Marks.{Mark, open_by, was_opened, was_ended_there, 
 use Rattle.stream_laws.specs.Marks.Mark.{EndsThere, EndsHere}
 use Rattle.stream_laws.proofs.RowMarks.{Story, no_story, story_after_all, story_joined, asked_of, story_asked, RowIs, FitsStory, here_closes, there_closes, here_stays, there_stays, begun_stays, found_with, closes, ends_all, opens}
 use Rattle.stream_table.specs.declared.open_stream.OpenStream.{OpenStream}
-use Rattle.stream_table.specs.RowLaws.{row_of-named}
-use Rattle.stream_table.specs.Rows.{row_of, with_row, new_row, after_opening}
+use Rattle.h2_flow.specs.KeyedRowLaws.{row_at-named}
+use Rattle.stream_table.specs.Rows.{stream_of, row_of, with_row, new_row, after_opening}
 
 -- the marks lead from how the one stood to how the other does
 abbrev Leads : ℕ → Standing → List Mark → Standing → Type 0
@@ -135,7 +135,7 @@ begun_ends : (asked k : ℕ) (row : OpenStream) (s : Standing) → row_of k s.st
 begun_ends asked k row s found =
     let new : OpenStream = record row { begun = true } in
     let begun : Standing = record s { streams = with_row new s.streams } in
-    let again : row_of k begun.streams ≡ Some new = found_with k s.streams row new found (row_of-named k s.streams row found) in
+    let again : row_of k begun.streams ≡ Some new = found_with k s.streams row new found (row_at-named stream_of k s.streams row found) in
     λ story fits. subst (λ (r : Option OpenStream). FitsStory asked (story_after_all asked (EndsThere k ∷ []) story) (row_ended_by_peer k r begun).streams (row_ended_by_peer k r begun).greatest) (sym again)
     (row_there asked k (Some new) begun again story (begun_stays asked k story s.streams s.greatest row found fits))
 

@@ -5,8 +5,9 @@ use Rattle.h2_flow.specs.declared.limits.TheConstants.{OPEN_STREAMS}
 use Rattle.stream_laws.specs.Marks.{Mark, is_opening, is_end_there, is_end_here, is_closing, was_opened, was_ended_there, was_ended_here, was_closed, open_by, if_open, marks_opening, marks_closed, closes_row}
 use Rattle.stream_laws.specs.Marks.Mark.{Opens, EndsThere, EndsHere, Closes}
 use Rattle.stream_table.specs.declared.open_stream.OpenStream.{OpenStream}
-use Rattle.stream_table.specs.Rows.{row_of, with_row, without_stream, new_row, after_opening, AreApart}
-use Rattle.stream_table.specs.RowLaws.{row_of-named, row_of-with_same, row_of-with_other, row_of-push_same, row_of-push_other, row_of-without_same, row_of-without_other, AreApart-with, AreApart-without, AreApart-push}
+use Rattle.h2_flow.specs.KeyedRows.{AreApart}
+use Rattle.stream_table.specs.Rows.{stream_of, row_of, with_row, without_stream, new_row, after_opening}
+use Rattle.h2_flow.specs.KeyedRowLaws.{row_at-named, row_at-with_same, row_at-with_other, row_at-push_same, row_at-push_other, row_at-without_same, row_at-without_other, AreApart-with, AreApart-without, AreApart-push}
 
 -- ---- the story of one stream
 
@@ -70,7 +71,7 @@ abbrev pub AreFalse : Bool → Bool → Bool → Bool → Type 0
 AreFalse o t h c = (o ≡ false) × (t ≡ false) × (h ≡ false) × (c ≡ false)
 
 pub record Fits (asked : ℕ) (o t h c : Bool) (rows : List OpenStream) (greatest : ℕ) : Type 0 where
-  pub apart : AreApart rows
+  pub apart : AreApart stream_of rows
   pub below : (other : ℕ) → greatest < other → row_of other rows ≡ None
   pub row : RowIs o t h c (row_of asked rows)
   -- nothing is said of a stream that is above the greatest
@@ -99,26 +100,26 @@ there_one o false c e = e
 
 -- ---- removed rows
 
-cleared : (k other : ℕ) (rows : List OpenStream) → AreApart rows → row_of other rows ≡ None → row_of other (without_stream k rows) ≡ None
+cleared : (k other : ℕ) (rows : List OpenStream) → AreApart stream_of rows → row_of other rows ≡ None → row_of other (without_stream k rows) ≡ None
 cleared k other rows apart none =
     elim (eqb_tells k other) [
-      | inl e ↦ subst (λ (n : ℕ). row_of n (without_stream k rows) ≡ None) e.1 (row_of-without_same k rows apart)
-      | inr e ↦ row_of-without_other other k rows e.1 ∙ none
+      | inl e ↦ subst (λ (n : ℕ). row_of n (without_stream k rows) ≡ None) e.1 (row_at-without_same stream_of k rows apart)
+      | inr e ↦ row_at-without_other stream_of other k rows e.1 ∙ none
     ]
 
 removed_other : (asked k : ℕ) (o t h c : Bool) (rows : List OpenStream) (g : ℕ) → k ≢ asked → Fits asked o t h c rows g → Fits asked o t h c (without_stream k rows) g
 removed_other asked k o t h c rows g ne fits = record {
-  apart = AreApart-without k rows fits.apart;
+  apart = AreApart-without stream_of k rows fits.apart;
   below = λ other above. cleared k other rows fits.apart (fits.below other above);
-  row = subst (λ (r : Option OpenStream). RowIs o t h c r) (sym (row_of-without_other asked k rows ne)) fits.row;
+  row = subst (λ (r : Option OpenStream). RowIs o t h c r) (sym (row_at-without_other stream_of asked k rows ne)) fits.row;
   fresh = fits.fresh;
 }
 
 removed_same : (asked k : ℕ) (o t h c x y z : Bool) (rows : List OpenStream) (g : ℕ) → k ≡ asked → open_by o x y z ≡ false → (g < asked → AreFalse o x y z) → Fits asked o t h c rows g → Fits asked o x y z (without_stream k rows) g
 removed_same asked k o t h c x y z rows g same shut fresh fits = record {
-  apart = AreApart-without k rows fits.apart;
+  apart = AreApart-without stream_of k rows fits.apart;
   below = λ other above. cleared k other rows fits.apart (fits.below other above);
-  row = subst (λ (r : Option OpenStream). RowIs o x y z r) (sym (subst (λ (n : ℕ). row_of n (without_stream k rows) ≡ None) same (row_of-without_same k rows fits.apart))) shut;
+  row = subst (λ (r : Option OpenStream). RowIs o x y z r) (sym (subst (λ (n : ℕ). row_of n (without_stream k rows) ≡ None) same (row_at-without_same stream_of k rows fits.apart))) shut;
   fresh = fresh;
 }
 
@@ -131,22 +132,22 @@ found_not_above k g o t h c asked rows row fits found above = let no : Some row 
 replaced_below : (asked k : ℕ) (o t h c : Bool) (rows : List OpenStream) (g : ℕ) (row new : OpenStream) → row_of k rows ≡ Some row → new.stream ≡ k → Fits asked o t h c rows g → (other : ℕ) → g < other → row_of other (with_row new rows) ≡ None
 replaced_below asked k o t h c rows g row new found named fits other above =
     let ne : new.stream ≢ other = λ e. found_not_above k g o t h c asked rows row fits found (subst (λ (n : ℕ). g < n) (sym e ∙ named) above) in
-    row_of-with_other other new rows ne ∙ fits.below other above
+    row_at-with_other stream_of other new rows ne ∙ fits.below other above
 
 pub found_with : (k : ℕ) (rows : List OpenStream) (row new : OpenStream) → row_of k rows ≡ Some row → new.stream ≡ k → row_of k (with_row new rows) ≡ Some new
-found_with k rows row new found named = subst (λ (n : ℕ). row_of n (with_row new rows) ≡ Some new) named (row_of-with_same new rows row (subst (λ (n : ℕ). row_of n rows ≡ Some row) (sym named) found))
+found_with k rows row new found named = subst (λ (n : ℕ). row_of n (with_row new rows) ≡ Some new) named (row_at-with_same stream_of new rows row (subst (λ (n : ℕ). row_of n rows ≡ Some row) (sym named) found))
 
 replaced_other : (asked k : ℕ) (o t h c : Bool) (rows : List OpenStream) (g : ℕ) (row new : OpenStream) → row_of k rows ≡ Some row → new.stream ≡ k → k ≢ asked → Fits asked o t h c rows g → Fits asked o t h c (with_row new rows) g
 replaced_other asked k o t h c rows g row new found named ne fits = record {
-  apart = AreApart-with new rows fits.apart;
+  apart = AreApart-with stream_of new rows fits.apart;
   below = replaced_below asked k o t h c rows g row new found named fits;
-  row = subst (λ (r : Option OpenStream). RowIs o t h c r) (sym (row_of-with_other asked new rows (λ e. ne (sym named ∙ e)))) fits.row;
+  row = subst (λ (r : Option OpenStream). RowIs o t h c r) (sym (row_at-with_other stream_of asked new rows (λ e. ne (sym named ∙ e)))) fits.row;
   fresh = fits.fresh;
 }
 
 replaced_same : (asked k : ℕ) (o t h c x y z : Bool) (rows : List OpenStream) (g : ℕ) (row new : OpenStream) → row_of k rows ≡ Some row → new.stream ≡ k → k ≡ asked → RowIs o x y z (Some new) → Fits asked o t h c rows g → Fits asked o x y z (with_row new rows) g
 replaced_same asked k o t h c x y z rows g row new found named same is fits = record {
-  apart = AreApart-with new rows fits.apart;
+  apart = AreApart-with stream_of new rows fits.apart;
   below = replaced_below asked k o t h c rows g row new found named fits;
   row = subst (λ (r : Option OpenStream). RowIs o x y z r) (sym (subst (λ (n : ℕ). row_of n (with_row new rows) ≡ Some new) same (found_with k rows row new found named))) is;
   fresh = λ above. found_not_above k g o t h c asked rows row fits found (subst (λ (n : ℕ). g < n) (sym same) above);
@@ -193,7 +194,7 @@ there_closes asked k story rows g row found here fits =
 pub here_stays : (asked k : ℕ) (story : Story) (rows : List OpenStream) (g : ℕ) (row : OpenStream) → row_of k rows ≡ Some row → row.peer_ended ≡ false
     → FitsStory asked story rows g → FitsStory asked (story_after asked (EndsHere k) story) (with_row (record row { here_ended = true }) rows) g
 here_stays asked k story rows g row found peer fits =
-    let named : row.stream ≡ k = row_of-named k rows row found in
+    let named : row.stream ≡ k = row_at-named stream_of k rows row found in
     let new : OpenStream = record row { here_ended = true } in
     elim (eqb_tells k asked) [
       | inl e ↦
@@ -209,7 +210,7 @@ here_stays asked k story rows g row found peer fits =
 pub there_stays : (asked k : ℕ) (story : Story) (rows : List OpenStream) (g : ℕ) (row : OpenStream) → row_of k rows ≡ Some row → row.here_ended ≡ false
     → FitsStory asked story rows g → FitsStory asked (story_after asked (EndsThere k) story) (with_row (record row { peer_ended = true }) rows) g
 there_stays asked k story rows g row found here fits =
-    let named : row.stream ≡ k = row_of-named k rows row found in
+    let named : row.stream ≡ k = row_at-named stream_of k rows row found in
     let new : OpenStream = record row { peer_ended = true } in
     elim (eqb_tells k asked) [
       | inl e ↦
@@ -226,7 +227,7 @@ there_stays asked k story rows g row found here fits =
 pub begun_stays : (asked k : ℕ) (story : Story) (rows : List OpenStream) (g : ℕ) (row : OpenStream) → row_of k rows ≡ Some row
     → FitsStory asked story rows g → FitsStory asked story (with_row (record row { begun = true }) rows) g
 begun_stays asked k story rows g row found fits =
-    let named : row.stream ≡ k = row_of-named k rows row found in
+    let named : row.stream ≡ k = row_at-named stream_of k rows row found in
     let new : OpenStream = record row { begun = true } in
     elim (eqb_tells k asked) [
       | inl e ↦
@@ -298,22 +299,22 @@ above_all asked k o t h c rows g above fits other more = fits.below other (omega
 
 pushed_below : (asked k : ℕ) (o t h c : Bool) (rows : List OpenStream) (g : ℕ) → g < k → Fits asked o t h c rows g → (other : ℕ) → k < other → row_of other (rows ++ new_row k ∷ []) ≡ None
 pushed_below asked k o t h c rows g above fits other more =
-    row_of-push_other other (new_row k) rows (λ e. never k other e more) ∙ above_all asked k o t h c rows g above fits other more
+    row_at-push_other stream_of other (new_row k) rows (λ e. never k other e more) ∙ above_all asked k o t h c rows g above fits other more
 
 pushed_same : (asked k : ℕ) (o t h c : Bool) (rows : List OpenStream) (g : ℕ) → g < k → k ≡ asked → Fits asked o t h c rows g → Fits asked true t h c (rows ++ new_row k ∷ []) k
 pushed_same asked k o t h c rows g above same fits =
     let is : AreFalse o t h c = fits.fresh (subst (λ (n : ℕ). g < n) same above) in record {
-      apart = AreApart-push (new_row k) rows fits.apart (fits.below k above);
+      apart = AreApart-push stream_of (new_row k) rows fits.apart (fits.below k above);
       below = pushed_below asked k o t h c rows g above fits;
-      row = subst (λ (r : Option OpenStream). RowIs true t h c r) (sym (subst (λ (n : ℕ). row_of n (rows ++ new_row k ∷ []) ≡ Some (new_row k)) same (row_of-push_same k (new_row k) rows refl (fits.below k above)))) (opens_new t h c k (is.1, is.2, is.3));
+      row = subst (λ (r : Option OpenStream). RowIs true t h c r) (sym (subst (λ (n : ℕ). row_of n (rows ++ new_row k ∷ []) ≡ Some (new_row k)) same (row_at-push_same stream_of k (new_row k) rows refl (fits.below k above)))) (opens_new t h c k (is.1, is.2, is.3));
       fresh = λ more. never k asked same more;
     }
 
 pushed_other : (asked k : ℕ) (o t h c : Bool) (rows : List OpenStream) (g : ℕ) → g < k → k ≢ asked → Fits asked o t h c rows g → Fits asked o t h c (rows ++ new_row k ∷ []) k
 pushed_other asked k o t h c rows g above ne fits = record {
-  apart = AreApart-push (new_row k) rows fits.apart (fits.below k above);
+  apart = AreApart-push stream_of (new_row k) rows fits.apart (fits.below k above);
   below = pushed_below asked k o t h c rows g above fits;
-  row = subst (λ (r : Option OpenStream). RowIs o t h c r) (sym (row_of-push_other asked (new_row k) rows ne)) fits.row;
+  row = subst (λ (r : Option OpenStream). RowIs o t h c r) (sym (row_at-push_other stream_of asked (new_row k) rows ne)) fits.row;
   fresh = λ more. fits.fresh (omega (arith, above, more));
 }
 
