@@ -8,7 +8,7 @@ use Rattle.h2_history.specs.History.{Entry, outs, passed_next, after, after_all,
 use Rattle.h2_history.specs.History.Entry.{Fed, Out, Took}
 use Rattle.h2_history.specs.History.Turn.{Rests, Goes, Reports}
 use Rattle.h2_history.specs.Puts.{Put, out, fits, goaway, broke, offered, offered_by, offer_all, placed, placed_by, placed_all}
-use Rattle.h2_history.specs.Runs.{Call, Step, IsRun, quiet_entries, data_put}
+use Rattle.h2_history.specs.Runs.{Call, Step, IsRun, quiet_entries, data_put, puts_of}
 use Rattle.h2_history.specs.Runs.Call.{Feed, Report, Rest, Offer, Send, Take}
 use Rattle.h2_history.specs.Standing.{Standing}
 use Rattle.h2_layouts.specs.declared.code.TheConstants.{ENHANCE_YOUR_CALM}
@@ -95,7 +95,7 @@ pub step_stands : (call : Call) (old : Standing) (entries : List Entry) (new : S
 step_stands (Feed octets) old entries new step = at_entries old new entries (Fed octets ∷ []) step.0 step.1
 step_stands (Report event) old entries new step = at_entries old new entries (quiet_entries old step.0.reaches.turns ++ turn_entries step.0.last) step.1 (sym (reported_stands old new event step.0))
 step_stands Rest old entries new step = at_entries old new entries (quiet_entries old step.0.reaches.turns) step.1 (sym (quiet_leads step.0.reaches.turns old new step.0.reaches.quiet))
-step_stands (Offer puts) old entries new step = at_entries old new entries (outs (placed_all puts old)) step.0 (step.1 ∙ sym (after_placed_all puts old))
+step_stands (Offer offer) old entries new step = at_entries old new entries (outs (placed_all (puts_of offer old) old)) step.0 (step.1 ∙ sym (after_placed_all (puts_of offer old) old))
 step_stands (Send stream octets) old entries new step = at_entries old new entries (Out (data_put stream octets) ∷ []) step.0 step.2
 step_stands (Take octets) old entries new step = at_entries old new entries (Took octets ∷ []) step.0 step.2
 
