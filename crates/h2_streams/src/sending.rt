@@ -26,6 +26,10 @@ use h2_layouts::flag::{END_HEADERS, END_STREAM};
 use h2_layouts::limit::LONGEST_PAYLOAD;
 use hpack::Headers;
 
+/// For how many octets of a header block memory is had at once: few blocks are longer, and one that
+/// grows is copied.
+const FIRST_OCTETS: usize = 256;
+
 /// Why no stream is opened.
 #[derive(Clone, Copy, Debug, PartialEq, Eq)]
 pub enum OpenStop {
@@ -141,7 +145,7 @@ impl Conn {
         ensures after { OnOk result (self.new ≡ record self.old { writing = writing_after self.old.writing headers.now }) }
         ensures unchanged { OnErr result (self.new ≡ self.old) }
     {
-        let mut block = Octets::new(self.alloc);
+        let mut block = Octets::from_vec(Vec::with_capacity(self.alloc, FIRST_OCTETS)?);
         self.encoder.block(headers, &mut block)?;
         Ok(block)
     }
