@@ -202,6 +202,7 @@ impl Conn {
 }
 
 /// What is reported of a block's list, where it is accepted.
+#[inline(always)]
 fn list_reported(stream: u32, end: bool, read: BlockRead) -> Option<CallEvent>
     ensures { result ≡ reported_of_list read.verdict stream read.headers end }
 {
@@ -216,6 +217,7 @@ fn list_reported(stream: u32, end: bool, read: BlockRead) -> Option<CallEvent>
 }
 
 /// What is reported of HEADERS: what breaks a rule of the stream, else what is reported of the list.
+#[inline(always)]
 fn headers_reported(verdict: Verdict, stream: u32, end: bool, read: BlockRead) -> Option<CallEvent>
     ensures { result ≡ reported_of_headers verdict stream end read.verdict read.headers }
 {

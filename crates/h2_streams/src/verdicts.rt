@@ -163,6 +163,7 @@ fn headers_on_row(row: Option<OpenStream>, stream: u32) -> Verdict
 }
 
 /// What is reported of a frame with this verdict, which reports this event where it is accepted.
+#[inline(always)]
 pub(crate) fn reported(verdict: Verdict, event: Option<CallEvent>) -> Option<CallEvent>
     ensures { result ≡ reported verdict event }
 {
