@@ -8,11 +8,11 @@
 #![tactic(auto)]
 
 mod cutting;
-mod parts;
 mod random;
 mod text;
 mod written;
 
+use case_words::octets_of;
 use h2_frames::Role;
 use std::alloc::{AllocError, Global};
 use std::io;
@@ -52,7 +52,7 @@ fn answer_of(alloc: Global, line: &str) -> Result<Option<String>, AllocError> {
 
 /// The frames of octets, and how it goes on after them.
 fn read_case(alloc: Global, role: Role, text: &str) -> Result<Option<String>, AllocError> {
-    match parts::octets_of(alloc, text)? {
+    match octets_of(alloc, text)? {
         Some(octets) => Ok(Some(cutting::answer(alloc, role, octets.as_slice())?)),
         None => Ok(None),
     }

@@ -1,8 +1,8 @@
 //! Random sequences of frames, written and read again.
 
+use crate::cutting;
 use crate::written::{add_frame, add_text};
-use crate::{cutting, parts};
-use case_words::Numbers;
+use case_words::{Numbers, octets_of};
 use esi_base::List;
 use h2_frames::{Frame, Role, Setting};
 use std::alloc::{AllocError, Global};
@@ -50,7 +50,7 @@ impl Sequence {
         };
         if numbers.coin() {
             sequence.role = Role::Server;
-            if let Some(preface) = parts::octets_of(alloc, "preface")? {
+            if let Some(preface) = octets_of(alloc, "preface")? {
                 sequence.octets = preface;
             }
         }

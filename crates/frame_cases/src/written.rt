@@ -1,6 +1,7 @@
 //! Frames that are written, and read again.
 
-use crate::{cutting, parts, text};
+use crate::{cutting, text};
+use case_words::octets_of;
 use esi_base::List;
 use h2_frames::{Frame, Role, Setting, frame_len, is_writable, write_frame};
 use std::alloc::{AllocError, Global};
@@ -83,7 +84,7 @@ fn frame_of(alloc: Global, text: &str) -> Result<Option<Frame>, AllocError> {
         "DATA" => {
             let stream = number(words.next());
             let end = yes(words.next());
-            let octets = octets_of(alloc, words.next())?;
+            let octets = word_octets(alloc, words.next())?;
             let flow = octets.len().min(4_294_967_295) as u32;
             Ok(Some(Frame::Content {
                 stream,
@@ -96,7 +97,7 @@ fn frame_of(alloc: Global, text: &str) -> Result<Option<Frame>, AllocError> {
             let stream = number(words.next());
             let end = yes(words.next());
             let last = yes(words.next());
-            let octets = octets_of(alloc, words.next())?;
+            let octets = word_octets(alloc, words.next())?;
             Ok(Some(Frame::Head {
                 stream,
                 end,
@@ -115,7 +116,7 @@ fn frame_of(alloc: Global, text: &str) -> Result<Option<Frame>, AllocError> {
         "SETTINGS" => settings_of(alloc, parts),
         "PING" => {
             let ack = yes(words.next());
-            let octets = octets_of(alloc, words.next())?;
+            let octets = word_octets(alloc, words.next())?;
             Ok(eight(octets.as_slice()).map(|octets| Frame::Ping { ack, octets }))
         }
         "GOAWAY" => {
@@ -131,7 +132,7 @@ fn frame_of(alloc: Global, text: &str) -> Result<Option<Frame>, AllocError> {
         "CONTINUATION" => {
             let stream = number(words.next());
             let last = yes(words.next());
-            let octets = octets_of(alloc, words.next())?;
+            let octets = word_octets(alloc, words.next())?;
             Ok(Some(Frame::Continued {
                 stream,
                 last,
@@ -165,9 +166,9 @@ fn settings_of(alloc: Global, parts: &str) -> Result<Option<Frame>, AllocError> 
 }
 
 /// The octets of a word.
-fn octets_of(alloc: Global, word: Option<&str>) -> Result<List<u8>, AllocError> {
+fn word_octets(alloc: Global, word: Option<&str>) -> Result<List<u8>, AllocError> {
     let text = word.unwrap_or("");
-    match parts::octets_of(alloc, text)? {
+    match octets_of(alloc, text)? {
         Some(octets) => Ok(List::from_vec(octets)),
         None => Ok(List::new(alloc)),
     }

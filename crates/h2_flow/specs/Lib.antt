@@ -2,8 +2,10 @@ pub mod ConnectionSums
 pub mod FaultLaws
 pub mod Faults
 pub mod History
-pub mod RowLaws
-pub mod StreamLaws
+pub mod IndexLaws
+pub mod KeyedIndexLaws
+pub mod KeyedRowLaws
+pub mod KeyedRows
 pub mod StreamSums
 pub mod Streams
 pub mod WindowLaws

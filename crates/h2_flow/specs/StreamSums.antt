@@ -6,8 +6,9 @@ use Rattle.std.proofs.lemmas.Bool.Decides.{eqb_tells}
 use Rattle.std.proofs.lemmas.Int.{ints}
 use Rattle.h2_flow.specs.declared.limits.TheConstants.{FIRST_WINDOW, GREATEST_WINDOW, OPEN_STREAMS}
 use Rattle.h2_flow.specs.declared.stream_windows.StreamWindows.{StreamWindows}
-use Rattle.h2_flow.specs.Streams.{new_windows, windows_on, with_windows, without_stream, send_window_of, is_too_great, octets_of, AreApart}
-use Rattle.h2_flow.specs.RowLaws.{windows_on-named, windows_on-with_same, windows_on-with_other, windows_on-push_same, windows_on-push_other, windows_on-without_same, windows_on-without_other, AreApart-with, AreApart-without, AreApart-push}
+use Rattle.h2_flow.specs.Streams.{new_windows, windows_on, with_windows, without_stream, send_window_of, is_too_great, octets_of, stream_of}
+use Rattle.h2_flow.specs.KeyedRows.{AreApart}
+use Rattle.h2_flow.specs.KeyedRowLaws.{row_at-named, row_at-with_same, row_at-with_other, row_at-push_same, row_at-push_other, row_at-without_same, row_at-without_other, AreApart-with, AreApart-without, AreApart-push}
 use Rattle.h2_flow.specs.Windows.{Windows, Answer, no_fault, fault_of_connection, fault_of_stream, first_windows, is_open, may_open, after_opening, may_send_on, receipt_on, update_on, after_sending_on, passes_some}
 use Rattle.h2_flow.specs.History.{Call, Step, IsRun, only, total_since, stays_open, opens, closes, increment_for, octets_sent_on, octets_arrived_on, setting_after, is_open_after, stream_send_window, connection_send_window, AreStreamSums}
 use Rattle.h2_flow.specs.History.Call.{OpenStream, CloseStream, Received, Resolve, Sent, Update, Initial}
@@ -21,7 +22,7 @@ record HasSums (given spent arrived initial : ℕ) (row : StreamWindows) : Type 
 
 -- what is so at every moment: the stream is open as reported, and if it is, its windows are these sums
 record Tracks (stream given spent arrived : ℕ) (is_it_open : Bool) (initial : ℕ) (rows : List StreamWindows) : Type 0 where
-  apart : AreApart rows
+  apart : AreApart stream_of rows
   setting : initial ≤ GREATEST_WINDOW
   flag : is_some (windows_on stream rows) ≡ is_it_open
   sums : (row : StreamWindows) → windows_on stream rows ≡ Some row → HasSums given spent arrived initial row
@@ -51,19 +52,19 @@ put_tracks stream changed new row i s r i' s' r' o initial rows tracks found nam
       | inl h ↦
           let here : windows_on stream rows ≡ Some row = ap (λ t. windows_on t rows) (sym h.1) ∙ found in
           let put : windows_on stream (with_windows new rows) ≡ Some new =
-          subst (λ t. windows_on t (with_windows new rows) ≡ Some new) (named ∙ h.1) (windows_on-with_same new rows row (ap (λ t. windows_on t rows) named ∙ found)) in
+          subst (λ t. windows_on t (with_windows new rows) ≡ Some new) (named ∙ h.1) (row_at-with_same stream_of new rows row (ap (λ t. windows_on t rows) named ∙ found)) in
           record {
-            apart = AreApart-with new rows tracks.apart;
+            apart = AreApart-with stream_of new rows tracks.apart;
             setting = tracks.setting;
             flag = ap is_some put ∙ (sym (ap is_some here) ∙ tracks.flag);
             sums = λ other is. let same : new ≡ other = cc in subst (λ w. HasSums i' s' r' initial w) same (mine h.1 (tracks.sums row here));
           }
       | inr h ↦
-          let stays : windows_on stream (with_windows new rows) ≡ windows_on stream rows = windows_on-with_other stream new rows (λ e. h.1 (sym named ∙ e)) in
+          let stays : windows_on stream (with_windows new rows) ≡ windows_on stream rows = row_at-with_other stream_of stream new rows (λ e. h.1 (sym named ∙ e)) in
           let others_stay = others h.1 in
           same_tracks stream i s r i' s' r' o initial (with_windows new rows)
           (record {
-            apart = AreApart-with new rows tracks.apart;
+            apart = AreApart-with stream_of new rows tracks.apart;
             setting = tracks.setting;
             flag = ap is_some stays ∙ tracks.flag;
             sums = λ other is. tracks.sums other (sym stays ∙ is);
@@ -88,7 +89,7 @@ module _ (stream i s r : ℕ) (o : Bool) (positive : 0 < stream) where
   unfolding Receives
   received_on_cases true row other octets w is found tracks = same_tracks stream i s r (i + 0) (s + 0) (r + 0) o w.initial w.streams tracks (omega arith) (omega arith) (omega arith)
   received_on_cases false row other octets w is found tracks =
-      put_tracks stream other (record row { receive = row.receive - octets }) row i s r (i + 0) (s + 0) (r + only stream other octets) o w.initial w.streams tracks found (windows_on-named other w.streams row found)
+      put_tracks stream other (record row { receive = row.receive - octets }) row i s r (i + 0) (s + 0) (r + only stream other octets) o w.initial w.streams tracks found (row_at-named stream_of other w.streams row found)
       (λ e has. record {
         credit = omega (arith, ints, has.credit);
         receive = omega (arith, only_same stream other octets e, has.receive, ltb-false row.receive octets is);
@@ -130,7 +131,7 @@ module _ (stream i s r : ℕ) (o : Bool) (positive : 0 < stream) where
         | inr h ↦ same_tracks stream i s r (i + 0) (s + only stream other octets) (r + 0) o w.initial w.streams tracks (omega arith) (omega (arith, only_other stream other octets h.1)) (omega arith)
       ]
   sent_tracks (Some row) other octets w is tracks =
-      put_tracks stream other (record row { credit = row.credit -ℤ pos octets }) row i s r (i + 0) (s + only stream other octets) (r + 0) o w.initial w.streams tracks is (windows_on-named other w.streams row is)
+      put_tracks stream other (record row { credit = row.credit -ℤ pos octets }) row i s r (i + 0) (s + only stream other octets) (r + 0) o w.initial w.streams tracks is (row_at-named stream_of other w.streams row is)
       (λ e has. record {
         credit = omega (arith, ints, only_same stream other octets e, has.credit);
         receive = omega (arith, has.receive);
@@ -152,7 +153,7 @@ module _ (stream i s r : ℕ) (o : Bool) (positive : 0 < stream) where
   updated_row true row other increment w is found tracks = same_tracks stream i s r (i + 0) (s + 0) (r + 0) o w.initial w.streams tracks (omega arith) (omega arith) (omega arith)
   updated_row false row other increment w is found tracks =
       let within = not_too_great (send_window_of w.initial row +ℤ pos increment) is in
-      put_tracks stream other (record row { credit = row.credit +ℤ pos increment }) row i s r (i + only stream other increment) (s + 0) (r + 0) o w.initial w.streams tracks found (windows_on-named other w.streams row found)
+      put_tracks stream other (record row { credit = row.credit +ℤ pos increment }) row i s r (i + only stream other increment) (s + 0) (r + 0) o w.initial w.streams tracks found (row_at-named stream_of other w.streams row found)
       (λ e has. record {
         credit = omega (arith, ints, only_same stream other increment e, has.credit);
         receive = omega (arith, has.receive);
@@ -219,19 +220,19 @@ module _ (stream i s r : ℕ) (o : Bool) (positive : 0 < stream) where
       → Tracks stream (cond is_it 0 (i + 0)) (cond is_it 0 (s + 0)) (cond is_it 0 (r + 0)) (cond is_it true o) w.initial (w.streams ++ new_windows other ∷ [])
   opened_tracks true other w is after_closing tracks =
       let same : other ≡ stream = eqb-true other stream is in
-      let put : windows_on stream (w.streams ++ new_windows other ∷ []) ≡ Some (new_windows other) = windows_on-push_same stream (new_windows other) w.streams same (ap (λ t. windows_on t w.streams) (sym same) ∙ after_closing) in
+      let put : windows_on stream (w.streams ++ new_windows other ∷ []) ≡ Some (new_windows other) = row_at-push_same stream_of stream (new_windows other) w.streams same (ap (λ t. windows_on t w.streams) (sym same) ∙ after_closing) in
       record {
-        apart = AreApart-push (new_windows other) w.streams tracks.apart after_closing;
+        apart = AreApart-push stream_of (new_windows other) w.streams tracks.apart after_closing;
         setting = tracks.setting;
         flag = ap is_some put;
         sums = λ row found. let that : new_windows other ≡ row = cc in
             subst (λ w'. HasSums 0 0 0 w.initial w') that (record { credit = refl; receive = refl; bounded = omega (arith, ints, tracks.setting) });
       }
   opened_tracks false other w is after_closing tracks =
-      let stays : windows_on stream (w.streams ++ new_windows other ∷ []) ≡ windows_on stream w.streams = windows_on-push_other stream (new_windows other) w.streams (eqb-false other stream is) in
+      let stays : windows_on stream (w.streams ++ new_windows other ∷ []) ≡ windows_on stream w.streams = row_at-push_other stream_of stream (new_windows other) w.streams (eqb-false other stream is) in
       same_tracks stream i s r (i + 0) (s + 0) (r + 0) o w.initial (w.streams ++ new_windows other ∷ [])
       (record {
-        apart = AreApart-push (new_windows other) w.streams tracks.apart after_closing;
+        apart = AreApart-push stream_of (new_windows other) w.streams tracks.apart after_closing;
         setting = tracks.setting;
         flag = ap is_some stays ∙ tracks.flag;
         sums = λ row found. tracks.sums row (sym stays ∙ found);
@@ -241,18 +242,18 @@ module _ (stream i s r : ℕ) (o : Bool) (positive : 0 < stream) where
       → Tracks stream (i + 0) (s + 0) (r + 0) (cond is_it false o) w.initial (without_stream other w.streams)
   closes_tracks true other w is tracks =
       let same : other ≡ stream = eqb-true other stream is in
-      let gone : windows_on stream (without_stream other w.streams) ≡ None = ap (λ t. windows_on stream (without_stream t w.streams)) same ∙ windows_on-without_same stream w.streams tracks.apart in
+      let gone : windows_on stream (without_stream other w.streams) ≡ None = ap (λ t. windows_on stream (without_stream t w.streams)) same ∙ row_at-without_same stream_of stream w.streams tracks.apart in
       record {
-        apart = AreApart-without other w.streams tracks.apart;
+        apart = AreApart-without stream_of other w.streams tracks.apart;
         setting = tracks.setting;
         flag = ap is_some gone;
         sums = λ row found. let no : None ≡ Some row = sym gone ∙ found in absurd (cc no);
       }
   closes_tracks false other w is tracks =
-      let stays : windows_on stream (without_stream other w.streams) ≡ windows_on stream w.streams = windows_on-without_other stream other w.streams (eqb-false other stream is) in
+      let stays : windows_on stream (without_stream other w.streams) ≡ windows_on stream w.streams = row_at-without_other stream_of stream other w.streams (eqb-false other stream is) in
       same_tracks stream i s r (i + 0) (s + 0) (r + 0) o w.initial (without_stream other w.streams)
       (record {
-        apart = AreApart-without other w.streams tracks.apart;
+        apart = AreApart-without stream_of other w.streams tracks.apart;
         setting = tracks.setting;
         flag = ap is_some stays ∙ tracks.flag;
         sums = λ row found. tracks.sums row (sym stays ∙ found);

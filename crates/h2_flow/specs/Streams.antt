@@ -1,7 +1,7 @@
 -- The windows of the open streams, as a list with an entry for each, and one stream's windows in it.
-use Rattle.std.specs.Prelude.{◌≡◌, ℕ, ◌<◌, ℤ, pos, negsuc, ◌+ℤ◌, ◌==◌, Bool, int_lt, find, Option, Some, None, List, [], ◌∷◌, length, slice_set, remove, if◌then◌else◌}
-use Rattle.std.specs.List.{slice_index_or}
+use Rattle.std.specs.Prelude.{ℕ, ℤ, pos, negsuc, ◌+ℤ◌, Bool, int_lt, Option, List}
 use Rattle.h2_flow.specs.declared.limits.TheConstants.{FIRST_WINDOW, GREATEST_WINDOW}
+use Rattle.h2_flow.specs.KeyedRows.{row_at, rows_with, rows_without}
 use Rattle.h2_flow.specs.declared.stream_windows.StreamWindows.{StreamWindows}
 
 -- the windows of a stream that has just been opened: nothing was given, sent or received on it
@@ -21,38 +21,18 @@ octets_of (negsuc octets) = 0
 abbrev pub is_too_great : ℤ → Bool
 is_too_great window = int_lt (pos GREATEST_WINDOW) window
 
--- these windows are the stream's
-abbrev pub is_of : ℕ → StreamWindows → Bool
-is_of stream row = row.stream == stream
+-- the stream that the windows are of
+abbrev pub stream_of : StreamWindows → ℕ
+stream_of row = row.stream
 
 -- the windows of a stream, None where it is not open
 abbrev pub windows_on : ℕ → List StreamWindows → Option StreamWindows
-windows_on stream rows = find (is_of stream) rows
+windows_on stream rows = row_at stream_of stream rows
 
 -- the open streams, with these windows for the stream that they name
 abbrev pub with_windows : StreamWindows → List StreamWindows → List StreamWindows
-with_windows new [] = []
-with_windows new (row ∷ rows) = if is_of new.stream row then new ∷ rows else row ∷ with_windows new rows
+with_windows new rows = rows_with stream_of new rows
 
 -- the open streams without this one
 abbrev pub without_stream : ℕ → List StreamWindows → List StreamWindows
-without_stream stream [] = []
-without_stream stream (row ∷ rows) = if is_of stream row then rows else row ∷ without_stream stream rows
-
--- no windows are the stream's
-pub record IsClosed (stream : ℕ) (rows : List StreamWindows) : Type 0 where
-  pub found : windows_on stream rows ≡ None
-  pub removed : without_stream stream rows ≡ rows
-
--- the stream's windows stand at this index
-pub record IsIndexOf (stream : ℕ) (rows : List StreamWindows) (at : ℕ) : Type 0 where
-  pub within : at < length rows
-  pub found : (other : StreamWindows) → windows_on stream rows ≡ Some (slice_index_or rows at other)
-  pub named : (other : StreamWindows) → (slice_index_or rows at other).stream ≡ stream
-  pub put : (new : StreamWindows) → new.stream ≡ stream → with_windows new rows ≡ slice_set rows at new
-  pub removed : without_stream stream rows ≡ remove rows at
-
--- no two windows are one stream's
-abbrev pub AreApart : List StreamWindows → Type 0
-AreApart [] = Unit {0}
-AreApart (row ∷ rows) = (windows_on row.stream rows ≡ None) × AreApart rows
+without_stream stream rows = rows_without stream_of stream rows

@@ -52,7 +52,7 @@ impl Ledger {
     }
 
     /// Whether the stream is open.
-    #[tactic(auto, using(crate::specs::StreamLaws::open_by_index))]
+    #[tactic(auto, using(crate::specs::IndexLaws::open_by_index))]
     pub fn is_open(&self, stream: u32) -> bool
         ensures { result ≡ is_open stream self.now }
     {

@@ -1,6 +1,7 @@
 //! The windows of one open stream, and its index among them.
 ghost use Rattle.std.specs.Prelude.{◌≡◌, pos, ◌+ℤ◌, ◌-ℤ◌, ◌≤◌, ◌≤ℤ◌, IfNone, IfSome};
-ghost use Rattle.h2_flow.specs.Streams.{send_window_of, octets_of, is_too_great, IsIndexOf, IsClosed};
+ghost use Rattle.h2_flow.specs.KeyedRows.{IsAbsent, IsIndexOf};
+ghost use Rattle.h2_flow.specs.Streams.{send_window_of, octets_of, is_too_great, stream_of};
 
 use crate::limits::GREATEST_WINDOW;
 
@@ -59,8 +60,8 @@ pub(crate) fn is_too_great(window: i64) -> bool
 
 /// Where an open stream stands among the others; None exactly where it is not open.
 pub(crate) fn index_of(streams: &[StreamWindows], stream: u32) -> Option<usize>
-    ensures closed { IfNone result (IsClosed stream streams.now) }
-    ensures index { IfSome result (IsIndexOf stream streams.now) }
+    ensures closed { IfNone result (IsAbsent stream_of stream streams.now) }
+    ensures index { IfSome result (IsIndexOf stream_of stream streams.now) }
 {
     streams.iter().position(|row| row.stream == stream)
 }

@@ -1,4 +1,4 @@
--- What a frame that is read does: how the connection stands then, what is put in answer, what is told of it.
+-- What a frame that is read does: how the connection stands then, what is put in answer, what is reported of it.
 use Rattle.std.specs.Prelude.{ℕ, nat_lt, Bool, true, false, Option, Some, None, List, [], ◌∷◌, ◌++◌, length, if◌then◌else◌}
 use Rattle.h2_flow.specs.declared.limits.TheConstants.{OPEN_STREAMS}
 use Rattle.h2_flow.specs.Windows.{answer_at_receipt, answer_at_update}
@@ -12,7 +12,7 @@ use Rattle.h2_history.specs.Puts.{Put, shut, opened, ended_by_peer, goaway, offe
 use Rattle.h2_history.specs.Puts.Put.{Plain}
 use Rattle.h2_history.specs.Settings.{Settled, settled}
 use Rattle.h2_history.specs.Standing.{Standing}
-use Rattle.h2_history.specs.Verdicts.{counted_on, data_verdict, headers_verdict, reset_verdict, update_verdict, owed, told}
+use Rattle.h2_history.specs.Verdicts.{counted_on, data_verdict, headers_verdict, reset_verdict, update_verdict, owed, reported}
 use Rattle.h2_layouts.specs.declared.frame.Frame.{Frame}
 use Rattle.h2_layouts.specs.declared.frame.Frame.TheVariants.{Content, Head, Reset, Settings, SettingsAck, Ping, GoAway, Update, Continued}
 use Rattle.h2_layouts.specs.declared.role.Role.{Role}
@@ -25,7 +25,7 @@ pub record Outcome : Type 0 where
 
 -- what is left when all that is owed was offered
 abbrev pub answered : Verdict → ℕ → Option CallEvent → Standing → Outcome
-answered verdict flow event s = record { left = offer_all (owed verdict flow s) s; event = told verdict event }
+answered verdict flow event s = record { left = offer_all (owed verdict flow s) s; event = reported verdict event }
 
 -- ---- DATA: counted on the connection in any case, on the stream where it is accepted
 
@@ -59,13 +59,13 @@ abbrev pub headers_owed : Verdict → ℕ → Bool → Bool → List ℕ → Sta
 headers_owed (ConnectionError code) stream end last octets s = owed (ConnectionError code) 0 s
 headers_owed verdict stream end last octets s = let read = headers_read verdict stream end last octets s in owed verdict 0 read.left ++ owed read.verdict 0 read.left
 
-abbrev pub list_told : ℕ → Bool → Completed → Option CallEvent
-list_told stream end read = told read.verdict (Some (events.Head stream read.headers end))
+abbrev pub list_reported : ℕ → Bool → Completed → Option CallEvent
+list_reported stream end read = reported read.verdict (Some (events.Head stream read.headers end))
 
-abbrev pub headers_told : Verdict → ℕ → Bool → Bool → List ℕ → Standing → Option CallEvent
-headers_told (ConnectionError code) stream end last octets s = None
-headers_told (StreamError on code) stream end last octets s = Some (events.Reset on code)
-headers_told verdict stream end last octets s = list_told stream end (headers_read verdict stream end last octets s)
+abbrev pub headers_reported : Verdict → ℕ → Bool → Bool → List ℕ → Standing → Option CallEvent
+headers_reported (ConnectionError code) stream end last octets s = None
+headers_reported (StreamError on code) stream end last octets s = Some (events.Reset on code)
+headers_reported verdict stream end last octets s = list_reported stream end (headers_read verdict stream end last octets s)
 
 -- CONTINUATION of the block that is not whole
 abbrev pub continued_read : Bool → List ℕ → HeaderBlock → Standing → Completed
@@ -79,12 +79,12 @@ abbrev pub continued_owed : Option HeaderBlock → Bool → List ℕ → Standin
 continued_owed None last octets s = []
 continued_owed (Some block) last octets s = let read = continued_read last octets block s in owed read.verdict 0 read.left
 
-abbrev pub continued_told : Option HeaderBlock → Bool → List ℕ → Standing → Option CallEvent
-continued_told None last octets s = None
-continued_told (Some block) last octets s = list_told block.stream block.end (continued_read last octets block s)
+abbrev pub continued_reported : Option HeaderBlock → Bool → List ℕ → Standing → Option CallEvent
+continued_reported None last octets s = None
+continued_reported (Some block) last octets s = list_reported block.stream block.end (continued_read last octets block s)
 
 abbrev pub continued_outcome : Bool → List ℕ → Standing → Outcome
-continued_outcome last octets s = record { left = offer_all (continued_owed s.block last octets s) (continued_seen s.block last octets s); event = continued_told s.block last octets s }
+continued_outcome last octets s = record { left = offer_all (continued_owed s.block last octets s) (continued_seen s.block last octets s); event = continued_reported s.block last octets s }
 
 -- ---- RST_STREAM, WINDOW_UPDATE, SETTINGS, GOAWAY
 
@@ -132,14 +132,14 @@ frame_owed (Update stream increment) s = owed (update_verdict stream increment s
 frame_owed (Continued stream last octets) s = continued_owed s.block last octets s
 frame_owed frame s = []
 
-abbrev pub frame_told : Frame → Standing → Option CallEvent
-frame_told (Content stream end octets flow) s = told (data_verdict stream flow s) (Some (events.Part stream octets flow end))
-frame_told (Head stream end last octets) s = headers_told (headers_verdict stream s) stream end last octets s
-frame_told (Reset stream code) s = told (reset_verdict stream s) (Some (events.Reset stream code))
-frame_told (Update stream increment) s = told (update_verdict stream increment s) None
-frame_told (Continued stream last octets) s = continued_told s.block last octets s
-frame_told frame s = None
+abbrev pub frame_reported : Frame → Standing → Option CallEvent
+frame_reported (Content stream end octets flow) s = reported (data_verdict stream flow s) (Some (events.Part stream octets flow end))
+frame_reported (Head stream end last octets) s = headers_reported (headers_verdict stream s) stream end last octets s
+frame_reported (Reset stream code) s = reported (reset_verdict stream s) (Some (events.Reset stream code))
+frame_reported (Update stream increment) s = reported (update_verdict stream increment s) None
+frame_reported (Continued stream last octets) s = continued_reported s.block last octets s
+frame_reported frame s = None
 
 -- what is owed is put once all of the frame was seen
 abbrev pub frame_read : Frame → Standing → Outcome
-frame_read frame s = record { left = offer_all (frame_owed frame s) (frame_seen frame s); event = frame_told frame s }
+frame_read frame s = record { left = offer_all (frame_owed frame s) (frame_seen frame s); event = frame_reported frame s }

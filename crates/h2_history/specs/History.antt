@@ -1,11 +1,12 @@
 -- The history of a connection, and how the connection stands after it.
-use Rattle.std.specs.Prelude.{◌≡◌, ℕ, Option, Some, None, List, [], ◌∷◌, drop, map}
+use Rattle.std.specs.Prelude.{◌≡◌, ℕ, ◌-◌, Option, Some, None, List, [], ◌∷◌, drop, map}
 use Rattle.h2_frames.specs.Reading.{Next, next_of, fed_with}
 use Rattle.h2_frames.specs.Reading.Next.{NextUnfinished, NextFrame, NextFault}
-use Rattle.h2_flow.specs.declared.limits.TheConstants.{OPEN_STREAMS}
+use Rattle.h2_flow.specs.declared.limits.TheConstants.{FIRST_WINDOW, OPEN_STREAMS}
 use Rattle.hpack.specs.declared.limits.TheConstants.{MAX_HEADER_LIST_SIZE}
 use Rattle.h2_history.specs.declared.event.CallEvent.{CallEvent}
 use Rattle.h2_history.specs.declared.event.CallEvent.TheVariants.{Broken}
+use Rattle.h2_history.specs.declared.limits.TheConstants.{SERVER_WINDOW}
 use Rattle.h2_history.specs.Frames.{frame_seen, frame_owed, frame_read}
 use Rattle.h2_history.specs.Puts.{Put, out, goaway, broke, placed_all}
 use Rattle.h2_history.specs.Puts.Put.{Plain}
@@ -51,7 +52,7 @@ after_all (entry ∷ entries) s = after_all entries (after entry s)
 abbrev pub first_puts : Role → List Put
 first_puts Server =
     Plain (Settings (record { id = MAX_CONCURRENT_STREAMS; value = OPEN_STREAMS } ∷ record { id = HEADER_LIST_SETTING; value = MAX_HEADER_LIST_SIZE } ∷ []))
-    ∷ Plain (Update 0 983041) ∷ []
+    ∷ Plain (Update 0 (SERVER_WINDOW - FIRST_WINDOW)) ∷ []
 first_puts Client = Plain (Settings (record { id = ENABLE_PUSH; value = 0 } ∷ [])) ∷ []
 
 abbrev pub outs : List Put → List Entry
@@ -67,28 +68,28 @@ StandsFor s role entries = s ≡ after_all entries (new_standing role)
 
 -- ---- one turn of reading
 
--- one turn: nothing further stands in the octets fed; a frame was read, or a rule was broken, of which nothing is told;
--- something is told
+-- one turn: nothing further stands in the octets fed; a frame was read, or a rule was broken, of which nothing is reported;
+-- something is reported
 pub data Turn : Type 0 where
   Rests : Turn
   Goes : (left : Standing) → Turn
-  Tells : (left : Standing) (event : CallEvent) → Turn
+  Reports : (left : Standing) (event : CallEvent) → Turn
 
-abbrev pub turn_told : Option CallEvent → Standing → Turn
-turn_told None s = Goes s
-turn_told (Some event) s = Tells s event
+abbrev pub turn_reported : Option CallEvent → Standing → Turn
+turn_reported None s = Goes s
+turn_reported (Some event) s = Reports s event
 
 abbrev pub turn_read : Frame → Standing → Turn
-turn_read frame s = turn_told (frame_read frame s).event (frame_read frame s).left
+turn_read frame s = turn_reported (frame_read frame s).event (frame_read frame s).left
 
 abbrev pub turn_next : Next → Standing → Turn
 turn_next NextUnfinished s = Rests
 turn_next (NextFault code) s = Goes (broke code s)
 turn_next (NextFrame frame reading) s = turn_read frame (record s { reading = reading })
 
--- a connection that has ended tells its error each time
+-- a connection that has ended reports its error each time
 abbrev pub turn_by : Option ℕ → Standing → Turn
-turn_by (Some code) s = Tells s (Broken code)
+turn_by (Some code) s = Reports s (Broken code)
 turn_by None s = turn_next (next_of s.reading) s
 
 abbrev pub turn_of : Standing → Turn
@@ -109,7 +110,7 @@ turn_entries s = entries_by s.broken s
 
 -- ---- what one call of reading does
 
--- these turns tell nothing, and lead from the one to the other
+-- these turns report nothing, and lead from the one to the other
 abbrev pub AreQuiet : Standing → List Standing → Standing → Type 0
 AreQuiet old [] new = old ≡ new
 AreQuiet old (next ∷ others) new = (turn_of old ≡ Goes next) × AreQuiet next others new
@@ -118,13 +119,13 @@ pub record Reaches (old new : Standing) : Type 0 where
   pub turns : List Standing
   pub quiet : AreQuiet old turns new
 
--- an event comes after turns that tell nothing
-pub record IsTold (old new : Standing) (event : CallEvent) : Type 0 where
+-- an event comes after turns that report nothing
+pub record IsReported (old new : Standing) (event : CallEvent) : Type 0 where
   pub last : Standing
   pub reaches : Reaches old last
-  pub tells : turn_of last ≡ Tells new event
+  pub reports : turn_of last ≡ Reports new event
 
--- after turns that tell nothing, nothing further stands in the octets fed
+-- after turns that report nothing, nothing further stands in the octets fed
 pub record IsAtRest (old new : Standing) : Type 0 where
   pub reaches : Reaches old new
   pub rests : turn_of new ≡ Rests

@@ -7,8 +7,8 @@ use Rattle.h2_history.specs.Frames.{frame_seen, frame_owed}
 use Rattle.h2_history.specs.History.{Entry, outs, passed, passed_next, after, after_all, turn_entries, entries_by, entries_next}
 use Rattle.h2_history.specs.History.Entry.{Fed, In, Out, Took}
 use Rattle.h2_history.specs.Puts.{Put, octets_put, out, placed_all}
-use Rattle.h2_history.specs.Runs.{Call, Step, IsRun, quiet_entries, data_put, octets_out, octets_taken}
-use Rattle.h2_history.specs.Runs.Call.{Feed, Tell, Rest, Offer, Send, Take}
+use Rattle.h2_history.specs.Runs.{Call, Step, IsRun, quiet_entries, data_put, octets_out, octets_taken, puts_of}
+use Rattle.h2_history.specs.Runs.Call.{Feed, Report, Rest, Offer, Send, Take}
 use Rattle.h2_history.specs.RunLaws.{step_stands}
 use Rattle.h2_history.specs.Standing.{Standing}
 use Rattle.h2_history.specs.Unmoved.{seen_stays, out_octets}
@@ -127,16 +127,17 @@ at_is old new entries others e is = subst (λ (l : List Entry). OutputIs old l n
 
 step_output : (call : Call) (old : Standing) (entries : List Entry) (new : Standing) → Step old call entries new → OutputIs old entries new
 step_output (Feed octets) old entries new step = at_is old new entries (Fed octets ∷ []) step.0 (grown (Fed octets ∷ []) old new tt step.1)
-step_output (Tell event) old entries new step =
+step_output (Report event) old entries new step =
     let others : List Entry = quiet_entries old step.0.reaches.turns ++ turn_entries step.0.last in
     at_is old new entries others step.1
     (grown others old new (none_joined (quiet_entries old step.0.reaches.turns) (turn_entries step.0.last) (quiet_none step.0.reaches.turns old) (by_none step.0.last.broken step.0.last))
-    (step_stands (Tell event) old others new (step.0, refl)))
+    (step_stands (Report event) old others new (step.0, refl)))
 step_output Rest old entries new step =
     let others : List Entry = quiet_entries old step.0.reaches.turns in
     at_is old new entries others step.1 (grown others old new (quiet_none step.0.reaches.turns old) (step_stands Rest old others new (step.0, refl)))
-step_output (Offer puts) old entries new step =
-    at_is old new entries (outs (placed_all puts old)) step.0 (grown (outs (placed_all puts old)) old new (outs_none (placed_all puts old)) (step_stands (Offer puts) old (outs (placed_all puts old)) new (refl, step.1)))
+step_output (Offer offer) old entries new step =
+    let others : List Entry = outs (placed_all (puts_of offer old) old) in
+    at_is old new entries others step.0 (grown others old new (outs_none (placed_all (puts_of offer old) old)) (step_stands (Offer offer) old others new (refl, step.1)))
 step_output (Send stream octets) old entries new step =
     at_is old new entries (Out (data_put stream octets) ∷ []) step.0 (grown (Out (data_put stream octets) ∷ []) old new tt step.2)
 step_output (Take octets) old entries new step =

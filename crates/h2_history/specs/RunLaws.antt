@@ -4,12 +4,12 @@ use Rattle.h2_frames.specs.Reading.{Next, next_of}
 use Rattle.h2_frames.specs.Reading.Next.{NextUnfinished, NextFrame, NextFault}
 use Rattle.h2_history.specs.declared.event.CallEvent.{CallEvent}
 use Rattle.h2_history.specs.Frames.{frame_seen, frame_owed, frame_read}
-use Rattle.h2_history.specs.History.{Entry, outs, passed_next, after, after_all, new_standing, StandsFor, Turn, turn_of, turn_by, turn_next, turn_told, turn_entries, entries_by, entries_next, AreQuiet, IsTold}
+use Rattle.h2_history.specs.History.{Entry, outs, passed_next, after, after_all, new_standing, StandsFor, Turn, turn_of, turn_by, turn_next, turn_reported, turn_entries, entries_by, entries_next, AreQuiet, IsReported}
 use Rattle.h2_history.specs.History.Entry.{Fed, Out, Took}
-use Rattle.h2_history.specs.History.Turn.{Rests, Goes, Tells}
+use Rattle.h2_history.specs.History.Turn.{Rests, Goes, Reports}
 use Rattle.h2_history.specs.Puts.{Put, out, fits, goaway, broke, offered, offered_by, offer_all, placed, placed_by, placed_all}
-use Rattle.h2_history.specs.Runs.{Call, Step, IsRun, quiet_entries, data_put}
-use Rattle.h2_history.specs.Runs.Call.{Feed, Tell, Rest, Offer, Send, Take}
+use Rattle.h2_history.specs.Runs.{Call, Step, IsRun, quiet_entries, data_put, puts_of}
+use Rattle.h2_history.specs.Runs.Call.{Feed, Report, Rest, Offer, Send, Take}
 use Rattle.h2_history.specs.Standing.{Standing}
 use Rattle.h2_layouts.specs.declared.code.TheConstants.{ENHANCE_YOUR_CALM}
 use Rattle.h2_layouts.specs.declared.role.Role.{Role}
@@ -49,11 +49,11 @@ after_placed_all (put ∷ puts) s =
 abbrev Leads : Turn → Standing → Type 0
 Leads Rests new = ⊥
 Leads (Goes left) new = left ≡ new
-Leads (Tells left event) new = left ≡ new
+Leads (Reports left event) new = left ≡ new
 
-told_leads : (event : Option CallEvent) (s new : Standing) → Leads (turn_told event s) new → s ≡ new
-told_leads None s new e = e
-told_leads (Some event) s new e = e
+reported_leads : (event : Option CallEvent) (s new : Standing) → Leads (turn_reported event s) new → s ≡ new
+reported_leads None s new e = e
+reported_leads (Some event) s new e = e
 
 next_entries : (next : Next) (s new : Standing) → next_of s.reading ≡ next → Leads (turn_next next s) new → after_all (entries_next next s) s ≡ new
 next_entries NextUnfinished s new is leads = absurd leads
@@ -62,7 +62,7 @@ next_entries (NextFrame frame reading) s new is leads =
     let t : Standing = record s { reading = reading } in
     ap (λ (n : Next). after_all (outs (placed_all (frame_owed frame t) (frame_seen frame t))) (frame_seen frame (passed_next n s))) is
     ∙ (after_placed_all (frame_owed frame t) (frame_seen frame t)
-    ∙ told_leads (frame_read frame t).event (frame_read frame t).left new leads)
+    ∙ reported_leads (frame_read frame t).event (frame_read frame t).left new leads)
 
 by_entries : (broken : Option ℕ) (s new : Standing) → Leads (turn_by broken s) new → after_all (entries_by broken s) s ≡ new
 by_entries (Some code) s new leads = leads
@@ -79,12 +79,12 @@ quiet_leads (next ∷ turns) old new quiet =
     ∙ (ap (λ (s : Standing). after_all (quiet_entries next turns) s) (turn_leads old next leads)
     ∙ quiet_leads turns next new quiet.1)
 
-told_stands : (old new : Standing) (event : CallEvent) (told : IsTold old new event) → after_all (quiet_entries old told.reaches.turns ++ turn_entries told.last) old ≡ new
-told_stands old new event told =
-    let leads : Leads (turn_of told.last) new = subst (λ (turn : Turn). Leads turn new) (sym told.tells) refl in
-    after_joined (quiet_entries old told.reaches.turns) (turn_entries told.last) old
-    ∙ (ap (λ (s : Standing). after_all (turn_entries told.last) s) (quiet_leads told.reaches.turns old told.last told.reaches.quiet)
-    ∙ turn_leads told.last new leads)
+reported_stands : (old new : Standing) (event : CallEvent) (reported : IsReported old new event) → after_all (quiet_entries old reported.reaches.turns ++ turn_entries reported.last) old ≡ new
+reported_stands old new event reported =
+    let leads : Leads (turn_of reported.last) new = subst (λ (turn : Turn). Leads turn new) (sym reported.reports) refl in
+    after_joined (quiet_entries old reported.reaches.turns) (turn_entries reported.last) old
+    ∙ (ap (λ (s : Standing). after_all (turn_entries reported.last) s) (quiet_leads reported.reaches.turns old reported.last reported.reaches.quiet)
+    ∙ turn_leads reported.last new leads)
 
 -- ---- calls
 
@@ -93,9 +93,9 @@ at_entries old new entries others e same = same ∙ ap (λ (l : List Entry). aft
 
 pub step_stands : (call : Call) (old : Standing) (entries : List Entry) (new : Standing) → Step old call entries new → new ≡ after_all entries old
 step_stands (Feed octets) old entries new step = at_entries old new entries (Fed octets ∷ []) step.0 step.1
-step_stands (Tell event) old entries new step = at_entries old new entries (quiet_entries old step.0.reaches.turns ++ turn_entries step.0.last) step.1 (sym (told_stands old new event step.0))
+step_stands (Report event) old entries new step = at_entries old new entries (quiet_entries old step.0.reaches.turns ++ turn_entries step.0.last) step.1 (sym (reported_stands old new event step.0))
 step_stands Rest old entries new step = at_entries old new entries (quiet_entries old step.0.reaches.turns) step.1 (sym (quiet_leads step.0.reaches.turns old new step.0.reaches.quiet))
-step_stands (Offer puts) old entries new step = at_entries old new entries (outs (placed_all puts old)) step.0 (step.1 ∙ sym (after_placed_all puts old))
+step_stands (Offer offer) old entries new step = at_entries old new entries (outs (placed_all (puts_of offer old) old)) step.0 (step.1 ∙ sym (after_placed_all (puts_of offer old) old))
 step_stands (Send stream octets) old entries new step = at_entries old new entries (Out (data_put stream octets) ∷ []) step.0 step.2
 step_stands (Take octets) old entries new step = at_entries old new entries (Took octets ∷ []) step.0 step.2
 

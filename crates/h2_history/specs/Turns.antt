@@ -1,4 +1,4 @@
--- A turn that tells nothing brings reading nearer to its end.
+-- A turn that reports nothing brings reading nearer to its end.
 use Rattle.std.proofs.Common.{◌≡◌, ℕ, ◌+◌, ◌<◌, ◌≤◌, Option, Some, None, List, [], ◌∷◌, ◌++◌, length, refl, ap, sym, ◌∙◌, arith}
 use Rattle.h2_frames.specs.NextLaws.{next_hands_out}
 use Rattle.h2_frames.specs.Reading.{Reading, Next, next_of}
@@ -6,7 +6,7 @@ use Rattle.h2_frames.specs.Reading.Next.{NextUnfinished, NextFrame, NextFault}
 use Rattle.h2_frames.specs.StreamLaws.{frame_shortens}
 use Rattle.h2_history.specs.declared.event.CallEvent.{CallEvent}
 use Rattle.h2_history.specs.Frames.{frame_read}
-use Rattle.h2_history.specs.History.{turn_of, turn_by, turn_next, turn_told, AreQuiet, Reaches}
+use Rattle.h2_history.specs.History.{turn_of, turn_by, turn_next, turn_reported, AreQuiet, Reaches}
 use Rattle.h2_history.specs.History.Turn.{Goes}
 use Rattle.h2_history.specs.Puts.{broke, goaway}
 use Rattle.h2_history.specs.Standing.{Standing}
@@ -17,7 +17,7 @@ abbrev pub going : Option ℕ → ℕ
 going None = 1
 going (Some code) = 0
 
--- what falls with each turn that tells nothing
+-- what falls with each turn that reports nothing
 abbrev pub turns_left : Standing → ℕ
 turns_left s = length s.reading.unread + going s.broken
 
@@ -25,10 +25,10 @@ going_most : (broken : Option ℕ) → going broken ≤ 1
 going_most None = omega arith
 going_most (Some code) = omega arith
 
--- what a turn goes on with, where it tells nothing
-told_goes : (event : Option CallEvent) (s new : Standing) → turn_told event s ≡ Goes new → s ≡ new
-told_goes None s new e = cc
-told_goes (Some event) s new e = cc
+-- what a turn goes on with, where it reports nothing
+reported_goes : (event : Option CallEvent) (s new : Standing) → turn_reported event s ≡ Goes new → s ≡ new
+reported_goes None s new e = cc
+reported_goes (Some event) s new e = cc
 
 next_falls : (next : Next) (old new : Standing) → next_of old.reading ≡ next → old.broken ≡ None → turn_next next old ≡ Goes new → turns_left new < turns_left old
 next_falls NextUnfinished old new is going_on e = cc
@@ -39,7 +39,7 @@ next_falls (NextFault code) old new is going_on e =
     omega (arith, ended, ap going going_on, ap (λ (s : Standing). length s.reading.unread) (sym same), ap (λ (r : Reading). length r.unread) reading)
 next_falls (NextFrame frame reading) old new is going_on e =
     let passed : Standing = record old { reading = reading } in
-    let same : (frame_read frame passed).left ≡ new = told_goes (frame_read frame passed).event (frame_read frame passed).left new e in
+    let same : (frame_read frame passed).left ≡ new = reported_goes (frame_read frame passed).event (frame_read frame passed).left new e in
     let stays = (read_stays frame passed).reading in
     let shorter = frame_shortens old.reading frame reading (next_hands_out old.reading frame reading is) in
     omega (arith, shorter, going_most new.broken, ap going going_on, ap (λ (s : Standing). length s.reading.unread) (sym same), ap (λ (r : Reading). length r.unread) stays)

@@ -80,9 +80,9 @@ owed (StreamError stream code) flow s = Plain (Reset stream code) ∷ update_due
 owed Ignored flow s = update_due flow
 owed Accepted flow s = []
 
--- what is told of a frame that tells this where it is accepted
-abbrev pub told : Verdict → Option CallEvent → Option CallEvent
-told (ConnectionError code) event = None
-told (StreamError stream code) event = Some (ResetEvent stream code)
-told Ignored event = None
-told Accepted event = event
+-- what is reported of a frame that reports this where it is accepted
+abbrev pub reported : Verdict → Option CallEvent → Option CallEvent
+reported (ConnectionError code) event = None
+reported (StreamError stream code) event = Some (ResetEvent stream code)
+reported Ignored event = None
+reported Accepted event = event

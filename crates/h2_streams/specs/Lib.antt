@@ -2,4 +2,4 @@ pub mod Blocked
 pub mod Decoding
 pub mod Polling
 pub mod Sending
-pub mod Told
+pub mod Reported

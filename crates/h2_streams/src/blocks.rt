@@ -150,6 +150,7 @@ impl Conn {
     }
 
     /// Reads a block that is whole.
+    #[inline(always)]
     fn complete(&mut self, block: &HeaderBlock) -> Result<BlockRead, NoMemory>
         ensures { IfOk result (λ read. record { verdict = read.verdict; headers = read.headers; left = self.new } ≡ completed block.now self.old) }
     {
@@ -171,6 +172,7 @@ impl Conn {
     }
 
     /// Reads one frame of a block, the last one or not.
+    #[inline(always)]
     pub(crate) fn read_fragment(
         &mut self,
         last: bool,

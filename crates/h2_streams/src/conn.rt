@@ -13,7 +13,7 @@ use std::marker::Model;
 use stream_table::StreamTable;
 
 /// One end of a connection. It is fed what the peer sends and asked what happens; what it puts in answer,
-/// and what it is told to put, waits in its output. Contracts see how it stands, which is a function of
+/// and what it is asked to put, waits in its output. Contracts see how it stands, which is a function of
 /// its history.
 #[derive(Drop)]
 pub struct Conn {

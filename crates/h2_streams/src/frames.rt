@@ -1,12 +1,12 @@
 //! What a frame does that is read.
 ghost use Rattle.std.specs.Prelude.{◌≡◌, IfOk, None as none};
 ghost use Rattle.h2_history.specs.Frames.{counted, data_seen, headers_opens, goaway_seen, continued_outcome, frame_read};
-ghost use Rattle.h2_streams.specs.Told.{told_of_list, told_of_headers};
+ghost use Rattle.h2_streams.specs.Reported.{reported_of_list, reported_of_headers};
 ghost use Rattle.h2_layouts.specs.declared.frame.Frame.TheVariants as frames;
 
 use crate::blocks::BlockRead;
 use crate::conn::Conn;
-use crate::verdicts::told;
+use crate::verdicts::reported;
 use esi_base::{NoMemory, Octets};
 use h2_flow::OPEN_STREAMS;
 use h2_frames::{Frame, Role, Setting};
@@ -43,7 +43,7 @@ impl Conn {
         let verdict = self.data_verdict(stream, flow);
         self.see_data(verdict, stream, end, flow);
         self.owe(verdict, flow);
-        told(
+        reported(
             verdict,
             Some(CallEvent::Part {
                 stream,
@@ -94,7 +94,7 @@ impl Conn {
         let read = self.read_fragment(last, block)?;
         self.owe(verdict, 0);
         self.owe(read.verdict, 0);
-        Ok(headers_told(verdict, stream, end, read))
+        Ok(headers_reported(verdict, stream, end, read))
     }
 
     /// CONTINUATION of the block that is not whole.
@@ -111,7 +111,7 @@ impl Conn {
         let (stream, end) = (block.stream, block.end);
         let read = self.read_more(last, octets, block)?;
         self.owe(read.verdict, 0);
-        Ok(list_told(stream, end, read))
+        Ok(list_reported(stream, end, read))
     }
 
     /// RST_STREAM.
@@ -123,7 +123,7 @@ impl Conn {
             self.shut(stream);
         }
         self.owe(verdict, 0);
-        told(verdict, Some(CallEvent::Reset { stream, code }))
+        reported(verdict, Some(CallEvent::Reset { stream, code }))
     }
 
     /// WINDOW_UPDATE.
@@ -135,7 +135,7 @@ impl Conn {
             let _updated = self.ledger.update(stream, increment);
         }
         self.owe(verdict, 0);
-        told(verdict, None)
+        reported(verdict, None)
     }
 
     /// SETTINGS.
@@ -201,11 +201,12 @@ impl Conn {
     }
 }
 
-/// What is told of a block's list, where it is accepted.
-fn list_told(stream: u32, end: bool, read: BlockRead) -> Option<CallEvent>
-    ensures { result ≡ told_of_list read.verdict stream read.headers end }
+/// What is reported of a block's list, where it is accepted.
+#[inline(always)]
+fn list_reported(stream: u32, end: bool, read: BlockRead) -> Option<CallEvent>
+    ensures { result ≡ reported_of_list read.verdict stream read.headers end }
 {
-    told(
+    reported(
         read.verdict,
         Some(CallEvent::Head {
             stream,
@@ -215,13 +216,14 @@ fn list_told(stream: u32, end: bool, read: BlockRead) -> Option<CallEvent>
     )
 }
 
-/// What is told of HEADERS: what breaks a rule of the stream, else what is told of the list.
-fn headers_told(verdict: Verdict, stream: u32, end: bool, read: BlockRead) -> Option<CallEvent>
-    ensures { result ≡ told_of_headers verdict stream end read.verdict read.headers }
+/// What is reported of HEADERS: what breaks a rule of the stream, else what is reported of the list.
+#[inline(always)]
+fn headers_reported(verdict: Verdict, stream: u32, end: bool, read: BlockRead) -> Option<CallEvent>
+    ensures { result ≡ reported_of_headers verdict stream end read.verdict read.headers }
 {
     match verdict {
         Verdict::ConnectionError { .. } => None,
         Verdict::StreamError { stream, code } => Some(CallEvent::Reset { stream, code }),
-        Verdict::Ignored | Verdict::Accepted => list_told(stream, end, read),
+        Verdict::Ignored | Verdict::Accepted => list_reported(stream, end, read),
     }
 }

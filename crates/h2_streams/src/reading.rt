@@ -12,10 +12,10 @@ use h2_history::CallEvent;
 pub(crate) enum Turn {
     /// Nothing further stands in the octets that were fed.
     Rests,
-    /// A frame was read of which nothing is told.
+    /// A frame was read of which nothing is reported.
     Goes,
-    /// This is told.
-    Tells(CallEvent),
+    /// This is reported.
+    Reports(CallEvent),
 }
 
 impl Conn {
@@ -23,7 +23,7 @@ impl Conn {
     /// exactly where nothing further does. What the frames ask for that were read is in the output: the
     /// answers to SETTINGS and PING, RST_STREAM for what breaks a rule of a stream, GOAWAY for what
     /// breaks one of the connection, and octets of DATA given back from which nothing comes. A
-    /// connection that has ended with an error tells it each time. Out of memory is told each time from
+    /// connection that has ended with an error reports it each time. Out of memory is reported each time from
     /// then on.
     pub fn poll_call(&mut self) -> Poll<Result<CallEvent, NoMemory>>
         ensures { Polls self.old result self.new }
@@ -38,7 +38,7 @@ impl Conn {
         answer
     }
 
-    /// Turns, until one rests or tells something.
+    /// Turns, until one rests or reports something.
     fn run(&mut self) -> Poll<Result<CallEvent, NoMemory>>
         ensures { Runs self.old result self.new }
     {
@@ -47,7 +47,7 @@ impl Conn {
                 Err(NoMemory) => return Poll::Ready(Err(NoMemory)),
                 Ok(Turn::Rests) => return Poll::Pending,
                 Ok(Turn::Goes) => {}
-                Ok(Turn::Tells(event)) => return Poll::Ready(Ok(event)),
+                Ok(Turn::Reports(event)) => return Poll::Ready(Ok(event)),
             }
         }
     }
@@ -57,7 +57,7 @@ impl Conn {
         ensures { IfOk result (λ turn. Turns self.old turn self.new) }
     {
         if let Some(code) = self.broken {
-            return Ok(Turn::Tells(CallEvent::Broken { code }));
+            return Ok(Turn::Reports(CallEvent::Broken { code }));
         }
         match self.reader.poll_frame() {
             Poll::Pending => Ok(Turn::Rests),
@@ -68,7 +68,7 @@ impl Conn {
             }
             Poll::Ready(Ok(frame)) => match self.read_frame(frame)? {
                 None => Ok(Turn::Goes),
-                Some(event) => Ok(Turn::Tells(event)),
+                Some(event) => Ok(Turn::Reports(event)),
             },
         }
     }

@@ -26,6 +26,10 @@ use h2_layouts::flag::{END_HEADERS, END_STREAM};
 use h2_layouts::limit::LONGEST_PAYLOAD;
 use hpack::Headers;
 
+/// For how many octets of a header block memory is had at once: few blocks are longer, and one that
+/// grows is copied.
+const FIRST_OCTETS: usize = 256;
+
 /// Why no stream is opened.
 #[derive(Clone, Copy, Debug, PartialEq, Eq)]
 pub enum OpenStop {
@@ -62,7 +66,7 @@ impl Conn {
         }
     }
 
-    /// Puts as many of the octets as may be put, as one DATA frame, and tells how many. Pending comes
+    /// Puts as many of the octets as may be put, as one DATA frame, and reports how many. Pending comes
     /// exactly where the stream's window, the connection's or the room is at most 0. It takes no memory.
     pub fn poll_send(&mut self, stream: u32, octets: &[u8]) -> Poll<usize>
         requires going { self.old.broken ≡ None }
@@ -117,7 +121,7 @@ impl Conn {
         self.offer_reset(stream, code);
     }
 
-    /// Gives octets of DATA back that were told and not given back: at a client on the stream, where that
+    /// Gives octets of DATA back that were reported and not given back: at a client on the stream, where that
     /// is open, and at either end on the connection. It takes no memory.
     pub fn give_back(&mut self, stream: u32, octets: u32)
         requires going { self.old.broken ≡ None }
@@ -141,7 +145,7 @@ impl Conn {
         ensures after { OnOk result (self.new ≡ record self.old { writing = writing_after self.old.writing headers.now }) }
         ensures unchanged { OnErr result (self.new ≡ self.old) }
     {
-        let mut block = Octets::new(self.alloc);
+        let mut block = Octets::from_vec(Vec::with_capacity(self.alloc, FIRST_OCTETS)?);
         self.encoder.block(headers, &mut block)?;
         Ok(block)
     }
@@ -211,7 +215,7 @@ impl Conn {
         }
     }
 
-    /// Opens a stream with a header list, and tells which. It is for a client. `TooMany` comes exactly
+    /// Opens a stream with a header list, and reports which. It is for a client. `TooMany` comes exactly
     /// where as many streams are open as may be. Where it fails nothing has changed.
     pub fn open_call(&mut self, headers: &Headers) -> Result<u32, OpenStop>
         requires may { IsTrue (can_open self.old) }

@@ -1,6 +1,6 @@
 //! What a frame comes to where it stands.
 ghost use Rattle.std.specs.Prelude.{◌≡◌};
-ghost use Rattle.h2_history.specs.Verdicts.{on_open, counted_on, data_on_row, data_verdict, new_stream_verdict, headers_on_row, headers_verdict, reset_verdict, update_on_stream, update_verdict, told};
+ghost use Rattle.h2_history.specs.Verdicts.{on_open, counted_on, data_on_row, data_verdict, new_stream_verdict, headers_on_row, headers_verdict, reset_verdict, update_on_stream, update_verdict, reported};
 
 use crate::conn::Conn;
 use h2_flow::OPEN_STREAMS;
@@ -162,9 +162,10 @@ fn headers_on_row(row: Option<OpenStream>, stream: u32) -> Verdict
     }
 }
 
-/// What is told of a frame with this verdict, which tells this event where it is accepted.
-pub(crate) fn told(verdict: Verdict, event: Option<CallEvent>) -> Option<CallEvent>
-    ensures { result ≡ told verdict event }
+/// What is reported of a frame with this verdict, which reports this event where it is accepted.
+#[inline(always)]
+pub(crate) fn reported(verdict: Verdict, event: Option<CallEvent>) -> Option<CallEvent>
+    ensures { result ≡ reported verdict event }
 {
     match verdict {
         Verdict::ConnectionError { .. } | Verdict::Ignored => None,

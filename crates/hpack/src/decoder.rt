@@ -103,7 +103,7 @@ fn read_block(alloc: Global, table: &mut DynamicTable, block: &[u8]) -> Result<H
     ensures { AnswersAs (λ headers. record { headers = headers; table = table.new })
         (block_at table.old block.now) result }
 {
-    let mut list = HeaderList::new(alloc);
+    let mut list = HeaderList::new(alloc)?;
     read_to_end(alloc, &mut list, table, block)?;
     Ok(list.into_headers())
 }

@@ -1,5 +1,5 @@
 //! The headers that a block has had so far.
-ghost use Rattle.std.specs.Prelude.{◌≡◌, ◌≤◌, [], OnOk};
+ghost use Rattle.std.specs.Prelude.{◌≡◌, ◌≤◌, [], IfOk, OnOk};
 ghost use Rattle.esi_base.specs.Answers.{AnswersAs};
 ghost use Rattle.hpack.specs.RepresentationReading.{list_with, is_empty};
 ghost use Rattle.hpack.specs.Tables.{size_of, list_size};
@@ -7,9 +7,12 @@ ghost use Rattle.hpack.specs.Tables.{size_of, list_size};
 use crate::header::{Header, Headers};
 use crate::limits::MAX_HEADER_LIST_SIZE;
 use crate::stop::{BlockRule, HpackStop};
-use esi_base::{List, Stop};
+use esi_base::{List, NoMemory, Stop};
 use std::alloc::Global;
 use std::marker::Model;
+
+/// For how many headers memory is had at once: few lists have more, and a list that grows is copied.
+const FIRST_HEADERS: usize = 8;
 
 /// Headers of a size of at most `MAX_HEADER_LIST_SIZE`.
 #[derive(Debug, Drop)]
@@ -32,14 +35,14 @@ impl Model for HeaderList {
 }
 
 impl HeaderList {
-    /// No headers.
-    pub(crate) fn new(alloc: Global) -> HeaderList
-        ensures { result ≡ [] }
+    /// No headers. It takes memory for `FIRST_HEADERS` of them at once.
+    pub(crate) fn new(alloc: Global) -> Result<HeaderList, NoMemory>
+        ensures { IfOk result (λ list. list ≡ []) }
     {
-        HeaderList {
-            headers: List::new(alloc),
+        Ok(HeaderList {
+            headers: List::from_vec(Vec::with_capacity(alloc, FIRST_HEADERS)?),
             room: MAX_HEADER_LIST_SIZE,
-        }
+        })
     }
 
     /// Whether no header was added.

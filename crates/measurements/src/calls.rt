@@ -8,13 +8,23 @@ use h2_streams::{CallEvent, Conn};
 use hpack::{Header, Headers};
 use std::alloc::{AllocError, Global};
 
-/// More events than one end tells at once.
+/// More events than one end reports at once.
 const MOST_EVENTS: u32 = 1_000_000;
 
-/// A client and a server, and the header lists that they put.
+/// The header lists of a call, which are made once.
+#[derive(Drop)]
+struct Lists {
+    request: Headers,
+    reply: Headers,
+    trailers: Headers,
+    ghost request_small: { list_size request ≤ MAX_HEADER_LIST_SIZE },
+    ghost reply_small: { list_size reply ≤ MAX_HEADER_LIST_SIZE },
+    ghost trailers_small: { list_size trailers ≤ MAX_HEADER_LIST_SIZE },
+}
+
+/// A client and a server.
 #[derive(Drop)]
 struct Pair {
-    alloc: Global,
     client: Conn,
     server: Conn,
     ended: usize,
@@ -24,41 +34,53 @@ struct Pair {
 /// DATA of these octets, and a reply's HEADERS, DATA of the same octets and trailers. Gives how many
 /// calls ended in a round; None where one end finds a fault in the other.
 pub fn serve(alloc: Global, rounds: u32, octets: &[u8], open: u32) -> Option<usize> {
-    let mut pair = Pair::new(alloc)?;
+    let lists = Lists::new(alloc)?;
+    let mut pair = Pair::new(alloc, &lists)?;
     for _ in 0..rounds {
         pair.ended = 0;
-        pair.round(octets, open)?;
+        pair.round(&lists, octets, open)?;
     }
     Some(pair.ended)
 }
 
+impl Lists {
+    fn new(alloc: Global) -> Option<Lists> {
+        let request = request(alloc).ok()?;
+        let reply = reply(alloc).ok()?;
+        let trailers = trailers(alloc).ok()?;
+        Some(Lists {
+            request,
+            reply,
+            trailers,
+        })
+    }
+}
+
 impl Pair {
-    fn new(alloc: Global) -> Option<Pair> {
+    fn new(alloc: Global, lists: &Lists) -> Option<Pair> {
         let mut pair = Pair {
-            alloc,
             client: Conn::client(alloc).ok()?,
             server: Conn::server(alloc).ok()?,
             ended: 0,
         };
-        pair.carry(b"")?;
+        pair.carry(lists, b"")?;
         Some(pair)
     }
 
     /// So many calls, from their requests to the last octet of their replies.
-    fn round(&mut self, octets: &[u8], open: u32) -> Option<()> {
+    fn round(&mut self, lists: &Lists, octets: &[u8], open: u32) -> Option<()> {
         for _ in 0..open {
-            self.request(octets)?;
+            self.request(lists, octets)?;
         }
-        self.carry(octets)
+        self.carry(lists, octets)
     }
 
     /// The client puts a request.
-    fn request(&mut self, octets: &[u8]) -> Option<()> {
+    fn request(&mut self, lists: &Lists, octets: &[u8]) -> Option<()> {
         if !self.client.can_open() {
             return None;
         }
-        let headers = request(self.alloc).ok()?;
-        let stream = self.client.open_call(&headers).ok()?;
+        let stream = self.client.open_call(&lists.request).ok()?;
         put_data(&mut self.client, stream, octets)?;
         if !self.client.can_send(stream) {
             return None;
@@ -68,7 +90,7 @@ impl Pair {
     }
 
     /// The octets go there and back; each request that has ended is answered.
-    fn carry(&mut self, octets: &[u8]) -> Option<()> {
+    fn carry(&mut self, lists: &Lists, octets: &[u8]) -> Option<()> {
         pass(&mut self.client, &mut self.server)?;
         for _ in 0..MOST_EVENTS {
             match self.server.poll_call() {
@@ -77,7 +99,7 @@ impl Pair {
                 Poll::Ready(Ok(event)) => {
                     give_back(&mut self.server, &event);
                     if let Some(stream) = ended(&event)? {
-                        self.reply(stream, octets)?;
+                        self.reply(lists, stream, octets)?;
                     }
                 }
             }
@@ -99,18 +121,16 @@ impl Pair {
     }
 
     /// The server puts a reply.
-    fn reply(&mut self, stream: u32, octets: &[u8]) -> Option<()> {
+    fn reply(&mut self, lists: &Lists, stream: u32, octets: &[u8]) -> Option<()> {
         if !self.server.can_send(stream) {
             return None;
         }
-        let headers = reply(self.alloc).ok()?;
-        self.server.head(stream, &headers, false).ok()?;
+        self.server.head(stream, &lists.reply, false).ok()?;
         put_data(&mut self.server, stream, octets)?;
         if !self.server.can_send(stream) {
             return None;
         }
-        let trailers = trailers(self.alloc).ok()?;
-        self.server.head(stream, &trailers, true).ok()
+        self.server.head(stream, &lists.trailers, true).ok()
     }
 }
 

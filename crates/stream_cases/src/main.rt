@@ -11,7 +11,6 @@
 
 mod body;
 mod lists;
-mod parts;
 mod session;
 mod talk;
 mod text;

@@ -1,7 +1,8 @@
 //! One end of a connection, and what is done with it.
 
 use crate::lists::{reply, request};
-use crate::{parts, text};
+use crate::text;
+use case_words::octets_of;
 use esi_base::Poll;
 use h2_streams::{CallEvent, Conn, OpenStop};
 use std::alloc::{AllocError, Global};
@@ -52,7 +53,7 @@ pub fn answer(
         }
         first = false;
     }
-    session.tell_output()?;
+    session.report_output()?;
     Ok(Some(session.log))
 }
 
@@ -65,7 +66,7 @@ impl Session {
         } else {
             "settings"
         };
-        if let Some(octets) = parts::octets_of(self.alloc, start)? {
+        if let Some(octets) = octets_of(self.alloc, start)? {
             self.feed(octets.as_slice())?;
         }
         self.take();
@@ -86,7 +87,7 @@ impl Session {
         let count = number(pieces.next());
         match name {
             "take" => self.take(),
-            "keep" => self.tell_output()?,
+            "keep" => self.report_output()?,
             "open" => self.open(stream)?,
             "head" => self.head(stream, count)?,
             "send" => self.send(stream, count)?,
@@ -102,14 +103,14 @@ impl Session {
 
     /// Feeds the octets of a word.
     fn feed_word(&mut self, word: &str) -> Result<bool, AllocError> {
-        let Some(octets) = parts::octets_of(self.alloc, word)? else {
+        let Some(octets) = octets_of(self.alloc, word)? else {
             return Ok(false);
         };
         self.feed(octets.as_slice())?;
         Ok(true)
     }
 
-    /// Feeds octets, in one piece or one by one, and tells what happens.
+    /// Feeds octets, in one piece or one by one, and reports what happens.
     fn feed(&mut self, octets: &[u8]) -> Result<(), AllocError> {
         if !self.single {
             return self.feed_piece(octets);
@@ -127,29 +128,29 @@ impl Session {
         self.poll()
     }
 
-    /// Tells what happens, up to Pending, or up to the end of the connection, which is told once.
+    /// Reports what happens, up to Pending, or up to the end of the connection, which is reported once.
     fn poll(&mut self) -> Result<(), AllocError> {
         for _ in 0..1_000_000_000 {
             match self.conn.poll_call() {
                 Poll::Pending => return Ok(()),
                 Poll::Ready(Err(_failed)) => return Err(AllocError),
-                Poll::Ready(Ok(CallEvent::Broken { code })) => return self.tell_broken(code),
+                Poll::Ready(Ok(CallEvent::Broken { code })) => return self.report_broken(code),
                 Poll::Ready(Ok(event)) => {
                     let event = text::of_event(self.alloc, &event)?;
-                    self.tell(event.as_str())?;
+                    self.report(event.as_str())?;
                 }
             }
         }
         Ok(())
     }
 
-    fn tell(&mut self, text: &str) -> Result<(), AllocError> {
+    fn report(&mut self, text: &str) -> Result<(), AllocError> {
         self.log.push_str(text)?;
         self.log.push_str("; ")
     }
 
-    /// Tells that the connection has ended, where it was not told before.
-    fn tell_broken(&mut self, code: u32) -> Result<(), AllocError> {
+    /// Reports that the connection has ended, where it was not reported before.
+    fn report_broken(&mut self, code: u32) -> Result<(), AllocError> {
         let text = format!(in self.alloc; "broken {code}; ")?;
         if !self.log.as_str().ends_with(text.as_str()) {
             self.log.push_str(text.as_str())?;
@@ -157,13 +158,13 @@ impl Session {
         Ok(())
     }
 
-    /// Tells how many octets the output has, and which.
-    fn tell_output(&mut self) -> Result<(), AllocError> {
+    /// Reports how many octets the output has, and which.
+    fn report_output(&mut self) -> Result<(), AllocError> {
         let output = text::of_output(self.alloc, self.conn.output())?;
         self.log.push_str(output.as_str())
     }
 
-    /// Feeds HEADERS of the next streams and RST_STREAM behind each, and tells how many events came.
+    /// Feeds HEADERS of the next streams and RST_STREAM behind each, and reports how many events came.
     fn visit(&mut self, count: u32) -> Result<(), AllocError> {
         self.events = 0;
         for _ in 0..count {
@@ -171,7 +172,7 @@ impl Session {
             self.feed_frame(HEADERS, END_HEADERS, stream, b"\x83\x86\x04\x01/")?;
             self.feed_frame(RST_STREAM, 0, stream, &[0, 0, 0, 0])?;
         }
-        self.tell_events()
+        self.report_events()
     }
 
     /// Feeds HEADERS of the next streams and DATA of so many octets behind each.
@@ -183,7 +184,7 @@ impl Session {
             self.feed_frame(HEADERS, END_HEADERS, stream, b"\x83\x86\x04\x01/")?;
             self.feed_frame(DATA, 0, stream, payload.as_slice())?;
         }
-        self.tell_events()
+        self.report_events()
     }
 
     fn next_stream(&mut self) -> u32 {
@@ -221,10 +222,10 @@ impl Session {
         Ok(())
     }
 
-    fn tell_events(&mut self) -> Result<(), AllocError> {
+    fn report_events(&mut self) -> Result<(), AllocError> {
         let events = self.events;
         let text = format!(in self.alloc; "{events} events")?;
-        self.tell(text.as_str())
+        self.report(text.as_str())
     }
 
     /// Opens so many calls, one at least.
@@ -235,13 +236,13 @@ impl Session {
                 match self.conn.open_call(&headers) {
                     Ok(stream) => {
                         let text = format!(in self.alloc; "opened {stream}")?;
-                        self.tell(text.as_str())?;
+                        self.report(text.as_str())?;
                     }
-                    Err(OpenStop::TooMany) => self.tell("too many")?,
+                    Err(OpenStop::TooMany) => self.report("too many")?,
                     Err(OpenStop::NoMemory) => return Err(AllocError),
                 }
             } else {
-                self.tell("may not open")?;
+                self.report("may not open")?;
             }
         }
         Ok(())
@@ -249,7 +250,7 @@ impl Session {
 
     fn head(&mut self, stream: u32, end: u32) -> Result<(), AllocError> {
         if !self.conn.can_send(stream) {
-            return self.tell("may not send");
+            return self.report("may not send");
         }
         let headers = reply(self.alloc)?;
         if self.conn.head(stream, &headers, end != 0).is_err() {
@@ -258,7 +259,7 @@ impl Session {
         Ok(())
     }
 
-    /// Puts octets of DATA, in as many frames as it takes, and tells how many.
+    /// Puts octets of DATA, in as many frames as it takes, and reports how many.
     fn send(&mut self, stream: u32, count: u32) -> Result<(), AllocError> {
         let octets = Vec::from_elem(self.alloc, 0u8, count as usize)?;
         let mut sent: usize = 0;
@@ -267,23 +268,23 @@ impl Session {
                 break;
             }
             if self.conn.is_broken() || !self.conn.can_send(stream) {
-                return self.tell("may not send");
+                return self.report("may not send");
             }
             match self.conn.poll_send(stream, &octets[sent..]) {
                 Poll::Pending => {
                     let text = format!(in self.alloc; "sent {sent}, pending")?;
-                    return self.tell(text.as_str());
+                    return self.report(text.as_str());
                 }
                 Poll::Ready(more) => sent = sent.saturating_add(more),
             }
         }
         let text = format!(in self.alloc; "sent {sent}")?;
-        self.tell(text.as_str())
+        self.report(text.as_str())
     }
 
     fn finish(&mut self, stream: u32) -> Result<(), AllocError> {
         if !self.conn.can_send(stream) {
-            return self.tell("may not send");
+            return self.report("may not send");
         }
         self.conn.finish(stream);
         Ok(())
@@ -291,7 +292,7 @@ impl Session {
 
     fn reset(&mut self, stream: u32, code: u32) -> Result<(), AllocError> {
         if self.conn.is_broken() || !self.conn.was_opened(stream) {
-            return self.tell("may not reset");
+            return self.report("may not reset");
         }
         self.conn.reset(stream, code);
         Ok(())
@@ -299,7 +300,7 @@ impl Session {
 
     fn give_back(&mut self, stream: u32, octets: u32) -> Result<(), AllocError> {
         if self.conn.is_broken() || octets == 0 || octets > 1_048_576 {
-            return self.tell("may not give back");
+            return self.report("may not give back");
         }
         self.conn.give_back(stream, octets);
         Ok(())

@@ -313,7 +313,7 @@ fn carry(numbers: &mut Numbers, from: &mut Conn, to: &mut Conn) -> Result<(), Al
     Ok(())
 }
 
-/// What an end tells is taken by the body of its stream; whether it is as it was sent.
+/// What an end reports is taken by the body of its stream; whether it is as it was sent.
 fn take(bodies: &mut Vec<Body>, event: &CallEvent) -> bool {
     match event {
         CallEvent::Head {

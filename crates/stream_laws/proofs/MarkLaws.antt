@@ -31,17 +31,17 @@ use Rattle.h2_layouts.specs.declared.setting.Setting.{Setting}
 use Rattle.h2_layouts.specs.declared.setting.TheConstants.{HEADER_TABLE_SIZE, INITIAL_WINDOW_SIZE, MAX_CONCURRENT_STREAMS}
 use Rattle.stream_laws.specs.Marks.{Mark, open_by, was_opened, was_ended_there, was_ended_here, was_closed, if_open, marks_opening, marks_ended_here, marks_ended_there, marks_closed, marks_of_frame, marks_of_put, marks_of_data, marks_of_row, marks_of_list, marks_of_listing, marks_of_fragment, marks_of_headers, marks_of_continuation, marks_of_reset, marks_of_read, marks_of_entry, all_marks, IsAsMarked}
 use Rattle.stream_laws.specs.Marks.Mark.{EndsThere, EndsHere}
-use Rattle.stream_laws.proofs.RowMarks.{Story, no_story, tells, told_joined, asked_of, story_asked, RowIs, FitsStory, here_closes, there_closes, here_stays, there_stays, begun_stays, found_with, closes, ends_all, opens}
+use Rattle.stream_laws.proofs.RowMarks.{Story, no_story, story_after_all, story_joined, asked_of, story_asked, RowIs, FitsStory, here_closes, there_closes, here_stays, there_stays, begun_stays, found_with, closes, ends_all, opens}
 use Rattle.stream_table.specs.declared.open_stream.OpenStream.{OpenStream}
-use Rattle.stream_table.specs.RowLaws.{row_of-named}
-use Rattle.stream_table.specs.Rows.{row_of, with_row, new_row, after_opening}
+use Rattle.h2_flow.specs.KeyedRowLaws.{row_at-named}
+use Rattle.stream_table.specs.Rows.{stream_of, row_of, with_row, new_row, after_opening}
 
 -- the marks lead from how the one stood to how the other does
 abbrev Leads : ℕ → Standing → List Mark → Standing → Type 0
-Leads asked old marks new = (story : Story) → FitsStory asked story old.streams old.greatest → FitsStory asked (tells asked marks story) new.streams new.greatest
+Leads asked old marks new = (story : Story) → FitsStory asked story old.streams old.greatest → FitsStory asked (story_after_all asked marks story) new.streams new.greatest
 
 joined : (asked : ℕ) (first rest : List Mark) (old between new : Standing) → Leads asked old first between → Leads asked between rest new → Leads asked old (first ++ rest) new
-joined asked first rest old between new one other = λ story fits. subst (λ (x : Story). FitsStory asked x new.streams new.greatest) (sym (told_joined asked first rest story)) (other (tells asked first story) (one story fits))
+joined asked first rest old between new one other = λ story fits. subst (λ (x : Story). FitsStory asked x new.streams new.greatest) (sym (story_joined asked first rest story)) (other (story_after_all asked first story) (one story fits))
 
 either : (asked : ℕ) (b : Bool) (s t u : Standing) (marks others : List Mark) → Leads asked s marks t → Leads asked s others u → Leads asked s (cond b marks others) (cond b t u)
 either asked true s t u marks others hits misses = hits
@@ -92,7 +92,7 @@ room_leads : (asked k : ℕ) (s : Standing) (b : Bool) → ltb (length s.streams
 room_leads asked k s true is above = opening_leads asked k s above
 room_leads asked k s false is above = λ story fits.
     let same : after_opening k s.streams ≡ s.streams = ap (λ (b : Bool). cond b (s.streams ++ new_row k ∷ []) s.streams) is in
-    subst (λ (rows : List OpenStream). FitsStory asked (tells asked (marks_opening k s.streams) story) rows k) same (opening_leads asked k s above story fits)
+    subst (λ (rows : List OpenStream). FitsStory asked (story_after_all asked (marks_opening k s.streams) story) rows k) same (opening_leads asked k s above story fits)
 
 opens_by : (asked k : ℕ) (s : Standing) (b : Bool) → ltb s.greatest k ≡ b → Leads asked s (cond b (marks_opening k s.streams) []) (cond b (opened_if_room k s) s)
 opens_by asked k s true is = room_leads asked k s (ltb (length s.streams) OPEN_STREAMS) refl (ltb-true s.greatest k is)
@@ -135,8 +135,8 @@ begun_ends : (asked k : ℕ) (row : OpenStream) (s : Standing) → row_of k s.st
 begun_ends asked k row s found =
     let new : OpenStream = record row { begun = true } in
     let begun : Standing = record s { streams = with_row new s.streams } in
-    let again : row_of k begun.streams ≡ Some new = found_with k s.streams row new found (row_of-named k s.streams row found) in
-    λ story fits. subst (λ (r : Option OpenStream). FitsStory asked (tells asked (EndsThere k ∷ []) story) (row_ended_by_peer k r begun).streams (row_ended_by_peer k r begun).greatest) (sym again)
+    let again : row_of k begun.streams ≡ Some new = found_with k s.streams row new found (row_at-named stream_of k s.streams row found) in
+    λ story fits. subst (λ (r : Option OpenStream). FitsStory asked (story_after_all asked (EndsThere k ∷ []) story) (row_ended_by_peer k r begun).streams (row_ended_by_peer k r begun).greatest) (sym again)
     (row_there asked k (Some new) begun again story (begun_stays asked k story s.streams s.greatest row found fits))
 
 begun_leads : (asked : ℕ) (block : HeaderBlock) (row : Option OpenStream) (s : Standing) → row_of block.stream s.streams ≡ row → Leads asked s (marks_of_row block row) (begun_by_row block row s)
@@ -262,7 +262,7 @@ first_marks Server = refl
 first_marks Client = refl
 
 new_fits : (asked : ℕ) (role : Role) → FitsStory asked no_story (new_standing role).streams (new_standing role).greatest
-new_fits asked role = subst (λ (marks : List Mark). FitsStory asked (tells asked marks no_story) (new_standing role).streams (new_standing role).greatest) (first_marks role)
+new_fits asked role = subst (λ (marks : List Mark). FitsStory asked (story_after_all asked marks no_story) (new_standing role).streams (new_standing role).greatest) (first_marks role)
     (entries_lead asked (outs (first_puts role)) (first_standing role) no_story (first_fits asked role))
 
 says_open : (o t h c : Bool) (row : Option OpenStream) → RowIs o t h c row → is_some row ≡ open_by o t h c

@@ -5,8 +5,9 @@ use Rattle.h2_flow.specs.declared.limits.TheConstants.{OPEN_STREAMS}
 use Rattle.stream_laws.specs.Marks.{Mark, is_opening, is_end_there, is_end_here, is_closing, was_opened, was_ended_there, was_ended_here, was_closed, open_by, if_open, marks_opening, marks_closed, closes_row}
 use Rattle.stream_laws.specs.Marks.Mark.{Opens, EndsThere, EndsHere, Closes}
 use Rattle.stream_table.specs.declared.open_stream.OpenStream.{OpenStream}
-use Rattle.stream_table.specs.Rows.{row_of, with_row, without_stream, new_row, after_opening, AreApart}
-use Rattle.stream_table.specs.RowLaws.{row_of-named, row_of-with_same, row_of-with_other, row_of-push_same, row_of-push_other, row_of-without_same, row_of-without_other, AreApart-with, AreApart-without, AreApart-push}
+use Rattle.h2_flow.specs.KeyedRows.{AreApart}
+use Rattle.stream_table.specs.Rows.{stream_of, row_of, with_row, without_stream, new_row, after_opening}
+use Rattle.h2_flow.specs.KeyedRowLaws.{row_at-named, row_at-with_same, row_at-with_other, row_at-push_same, row_at-push_other, row_at-without_same, row_at-without_other, AreApart-with, AreApart-without, AreApart-push}
 
 -- ---- the story of one stream
 
@@ -19,21 +20,21 @@ pub record Story : Type 0 where
 abbrev pub no_story : Story
 no_story = record { opened = false; there = false; here = false; closed = false }
 
-abbrev pub tell : ℕ → Mark → Story → Story
-tell asked mark story = record {
+abbrev pub story_after : ℕ → Mark → Story → Story
+story_after asked mark story = record {
   opened = is_opening asked mark || story.opened;
   there = is_end_there asked mark || story.there;
   here = is_end_here asked mark || story.here;
   closed = is_closing asked mark || story.closed;
 }
 
-abbrev pub tells : ℕ → List Mark → Story → Story
-tells asked [] story = story
-tells asked (mark ∷ marks) story = tells asked marks (tell asked mark story)
+abbrev pub story_after_all : ℕ → List Mark → Story → Story
+story_after_all asked [] story = story
+story_after_all asked (mark ∷ marks) story = story_after_all asked marks (story_after asked mark story)
 
-pub told_joined : (asked : ℕ) (first rest : List Mark) (story : Story) → tells asked (first ++ rest) story ≡ tells asked rest (tells asked first story)
-told_joined asked [] rest story = refl
-told_joined asked (mark ∷ first) rest story = told_joined asked first rest (tell asked mark story)
+pub story_joined : (asked : ℕ) (first rest : List Mark) (story : Story) → story_after_all asked (first ++ rest) story ≡ story_after_all asked rest (story_after_all asked first story)
+story_joined asked [] rest story = refl
+story_joined asked (mark ∷ first) rest story = story_joined asked first rest (story_after asked mark story)
 
 swapped : (a b c : Bool) → (b || (a || c)) ≡ ((a || b) || c)
 swapped true true c = refl
@@ -52,10 +53,10 @@ four : (a b c d e f g h : Bool) → a ≡ e → b ≡ f → c ≡ g → d ≡ h
     → let x : Story = record { opened = a; there = b; here = c; closed = d } in let y : Story = record { opened = e; there = f; here = g; closed = h } in x ≡ y
 four a b c d e f g h p q r s = cc
 
-pub story_asked : (asked : ℕ) (marks : List Mark) (story : Story) → tells asked marks story ≡ asked_of asked marks story
+pub story_asked : (asked : ℕ) (marks : List Mark) (story : Story) → story_after_all asked marks story ≡ asked_of asked marks story
 story_asked asked [] story = refl
 story_asked asked (mark ∷ marks) story =
-    story_asked asked marks (tell asked mark story)
+    story_asked asked marks (story_after asked mark story)
     ∙ four (was_opened asked marks || (is_opening asked mark || story.opened)) (was_ended_there asked marks || (is_end_there asked mark || story.there)) (was_ended_here asked marks || (is_end_here asked mark || story.here)) (was_closed asked marks || (is_closing asked mark || story.closed))
     (was_opened asked (mark ∷ marks) || story.opened) (was_ended_there asked (mark ∷ marks) || story.there) (was_ended_here asked (mark ∷ marks) || story.here) (was_closed asked (mark ∷ marks) || story.closed)
     (swapped (is_opening asked mark) (was_opened asked marks) story.opened) (swapped (is_end_there asked mark) (was_ended_there asked marks) story.there) (swapped (is_end_here asked mark) (was_ended_here asked marks) story.here) (swapped (is_closing asked mark) (was_closed asked marks) story.closed)
@@ -70,7 +71,7 @@ abbrev pub AreFalse : Bool → Bool → Bool → Bool → Type 0
 AreFalse o t h c = (o ≡ false) × (t ≡ false) × (h ≡ false) × (c ≡ false)
 
 pub record Fits (asked : ℕ) (o t h c : Bool) (rows : List OpenStream) (greatest : ℕ) : Type 0 where
-  pub apart : AreApart rows
+  pub apart : AreApart stream_of rows
   pub below : (other : ℕ) → greatest < other → row_of other rows ≡ None
   pub row : RowIs o t h c (row_of asked rows)
   -- nothing is said of a stream that is above the greatest
@@ -99,26 +100,26 @@ there_one o false c e = e
 
 -- ---- removed rows
 
-cleared : (k other : ℕ) (rows : List OpenStream) → AreApart rows → row_of other rows ≡ None → row_of other (without_stream k rows) ≡ None
+cleared : (k other : ℕ) (rows : List OpenStream) → AreApart stream_of rows → row_of other rows ≡ None → row_of other (without_stream k rows) ≡ None
 cleared k other rows apart none =
     elim (eqb_tells k other) [
-      | inl e ↦ subst (λ (n : ℕ). row_of n (without_stream k rows) ≡ None) e.1 (row_of-without_same k rows apart)
-      | inr e ↦ row_of-without_other other k rows e.1 ∙ none
+      | inl e ↦ subst (λ (n : ℕ). row_of n (without_stream k rows) ≡ None) e.1 (row_at-without_same stream_of k rows apart)
+      | inr e ↦ row_at-without_other stream_of other k rows e.1 ∙ none
     ]
 
 removed_other : (asked k : ℕ) (o t h c : Bool) (rows : List OpenStream) (g : ℕ) → k ≢ asked → Fits asked o t h c rows g → Fits asked o t h c (without_stream k rows) g
 removed_other asked k o t h c rows g ne fits = record {
-  apart = AreApart-without k rows fits.apart;
+  apart = AreApart-without stream_of k rows fits.apart;
   below = λ other above. cleared k other rows fits.apart (fits.below other above);
-  row = subst (λ (r : Option OpenStream). RowIs o t h c r) (sym (row_of-without_other asked k rows ne)) fits.row;
+  row = subst (λ (r : Option OpenStream). RowIs o t h c r) (sym (row_at-without_other stream_of asked k rows ne)) fits.row;
   fresh = fits.fresh;
 }
 
 removed_same : (asked k : ℕ) (o t h c x y z : Bool) (rows : List OpenStream) (g : ℕ) → k ≡ asked → open_by o x y z ≡ false → (g < asked → AreFalse o x y z) → Fits asked o t h c rows g → Fits asked o x y z (without_stream k rows) g
 removed_same asked k o t h c x y z rows g same shut fresh fits = record {
-  apart = AreApart-without k rows fits.apart;
+  apart = AreApart-without stream_of k rows fits.apart;
   below = λ other above. cleared k other rows fits.apart (fits.below other above);
-  row = subst (λ (r : Option OpenStream). RowIs o x y z r) (sym (subst (λ (n : ℕ). row_of n (without_stream k rows) ≡ None) same (row_of-without_same k rows fits.apart))) shut;
+  row = subst (λ (r : Option OpenStream). RowIs o x y z r) (sym (subst (λ (n : ℕ). row_of n (without_stream k rows) ≡ None) same (row_at-without_same stream_of k rows fits.apart))) shut;
   fresh = fresh;
 }
 
@@ -131,22 +132,22 @@ found_not_above k g o t h c asked rows row fits found above = let no : Some row 
 replaced_below : (asked k : ℕ) (o t h c : Bool) (rows : List OpenStream) (g : ℕ) (row new : OpenStream) → row_of k rows ≡ Some row → new.stream ≡ k → Fits asked o t h c rows g → (other : ℕ) → g < other → row_of other (with_row new rows) ≡ None
 replaced_below asked k o t h c rows g row new found named fits other above =
     let ne : new.stream ≢ other = λ e. found_not_above k g o t h c asked rows row fits found (subst (λ (n : ℕ). g < n) (sym e ∙ named) above) in
-    row_of-with_other other new rows ne ∙ fits.below other above
+    row_at-with_other stream_of other new rows ne ∙ fits.below other above
 
 pub found_with : (k : ℕ) (rows : List OpenStream) (row new : OpenStream) → row_of k rows ≡ Some row → new.stream ≡ k → row_of k (with_row new rows) ≡ Some new
-found_with k rows row new found named = subst (λ (n : ℕ). row_of n (with_row new rows) ≡ Some new) named (row_of-with_same new rows row (subst (λ (n : ℕ). row_of n rows ≡ Some row) (sym named) found))
+found_with k rows row new found named = subst (λ (n : ℕ). row_of n (with_row new rows) ≡ Some new) named (row_at-with_same stream_of new rows row (subst (λ (n : ℕ). row_of n rows ≡ Some row) (sym named) found))
 
 replaced_other : (asked k : ℕ) (o t h c : Bool) (rows : List OpenStream) (g : ℕ) (row new : OpenStream) → row_of k rows ≡ Some row → new.stream ≡ k → k ≢ asked → Fits asked o t h c rows g → Fits asked o t h c (with_row new rows) g
 replaced_other asked k o t h c rows g row new found named ne fits = record {
-  apart = AreApart-with new rows fits.apart;
+  apart = AreApart-with stream_of new rows fits.apart;
   below = replaced_below asked k o t h c rows g row new found named fits;
-  row = subst (λ (r : Option OpenStream). RowIs o t h c r) (sym (row_of-with_other asked new rows (λ e. ne (sym named ∙ e)))) fits.row;
+  row = subst (λ (r : Option OpenStream). RowIs o t h c r) (sym (row_at-with_other stream_of asked new rows (λ e. ne (sym named ∙ e)))) fits.row;
   fresh = fits.fresh;
 }
 
 replaced_same : (asked k : ℕ) (o t h c x y z : Bool) (rows : List OpenStream) (g : ℕ) (row new : OpenStream) → row_of k rows ≡ Some row → new.stream ≡ k → k ≡ asked → RowIs o x y z (Some new) → Fits asked o t h c rows g → Fits asked o x y z (with_row new rows) g
 replaced_same asked k o t h c x y z rows g row new found named same is fits = record {
-  apart = AreApart-with new rows fits.apart;
+  apart = AreApart-with stream_of new rows fits.apart;
   below = replaced_below asked k o t h c rows g row new found named fits;
   row = subst (λ (r : Option OpenStream). RowIs o x y z r) (sym (subst (λ (n : ℕ). row_of n (with_row new rows) ≡ Some new) same (found_with k rows row new found named))) is;
   fresh = λ above. found_not_above k g o t h c asked rows row fits found (subst (λ (n : ℕ). g < n) (sym same) above);
@@ -164,7 +165,7 @@ FitsStory asked story rows greatest = Fits asked story.opened story.there story.
 
 -- END_STREAM of this end, or of the peer, on a stream that the other one has ended
 pub here_closes : (asked k : ℕ) (story : Story) (rows : List OpenStream) (g : ℕ) (row : OpenStream) → row_of k rows ≡ Some row → row.peer_ended ≡ true
-    → FitsStory asked story rows g → FitsStory asked (tell asked (EndsHere k) story) (without_stream k rows) g
+    → FitsStory asked story rows g → FitsStory asked (story_after asked (EndsHere k) story) (without_stream k rows) g
 here_closes asked k story rows g row found peer fits =
     elim (eqb_tells k asked) [
       | inl e ↦
@@ -177,7 +178,7 @@ here_closes asked k story rows g row found peer fits =
     ]
 
 pub there_closes : (asked k : ℕ) (story : Story) (rows : List OpenStream) (g : ℕ) (row : OpenStream) → row_of k rows ≡ Some row → row.here_ended ≡ true
-    → FitsStory asked story rows g → FitsStory asked (tell asked (EndsThere k) story) (without_stream k rows) g
+    → FitsStory asked story rows g → FitsStory asked (story_after asked (EndsThere k) story) (without_stream k rows) g
 there_closes asked k story rows g row found here fits =
     elim (eqb_tells k asked) [
       | inl e ↦
@@ -191,9 +192,9 @@ there_closes asked k story rows g row found here fits =
 
 -- and on one that it has not
 pub here_stays : (asked k : ℕ) (story : Story) (rows : List OpenStream) (g : ℕ) (row : OpenStream) → row_of k rows ≡ Some row → row.peer_ended ≡ false
-    → FitsStory asked story rows g → FitsStory asked (tell asked (EndsHere k) story) (with_row (record row { here_ended = true }) rows) g
+    → FitsStory asked story rows g → FitsStory asked (story_after asked (EndsHere k) story) (with_row (record row { here_ended = true }) rows) g
 here_stays asked k story rows g row found peer fits =
-    let named : row.stream ≡ k = row_of-named k rows row found in
+    let named : row.stream ≡ k = row_at-named stream_of k rows row found in
     let new : OpenStream = record row { here_ended = true } in
     elim (eqb_tells k asked) [
       | inl e ↦
@@ -207,9 +208,9 @@ here_stays asked k story rows g row found peer fits =
     ]
 
 pub there_stays : (asked k : ℕ) (story : Story) (rows : List OpenStream) (g : ℕ) (row : OpenStream) → row_of k rows ≡ Some row → row.here_ended ≡ false
-    → FitsStory asked story rows g → FitsStory asked (tell asked (EndsThere k) story) (with_row (record row { peer_ended = true }) rows) g
+    → FitsStory asked story rows g → FitsStory asked (story_after asked (EndsThere k) story) (with_row (record row { peer_ended = true }) rows) g
 there_stays asked k story rows g row found here fits =
-    let named : row.stream ≡ k = row_of-named k rows row found in
+    let named : row.stream ≡ k = row_at-named stream_of k rows row found in
     let new : OpenStream = record row { peer_ended = true } in
     elim (eqb_tells k asked) [
       | inl e ↦
@@ -226,7 +227,7 @@ there_stays asked k story rows g row found here fits =
 pub begun_stays : (asked k : ℕ) (story : Story) (rows : List OpenStream) (g : ℕ) (row : OpenStream) → row_of k rows ≡ Some row
     → FitsStory asked story rows g → FitsStory asked story (with_row (record row { begun = true }) rows) g
 begun_stays asked k story rows g row found fits =
-    let named : row.stream ≡ k = row_of-named k rows row found in
+    let named : row.stream ≡ k = row_at-named stream_of k rows row found in
     let new : OpenStream = record row { begun = true } in
     elim (eqb_tells k asked) [
       | inl e ↦
@@ -245,7 +246,7 @@ closes_none asked k story rows g none fits =
       | inr e ↦ removed_other asked k story.opened story.there story.here story.closed rows g e.1 fits
     ]
 
-closes_row_found : (asked k : ℕ) (story : Story) (rows : List OpenStream) (g : ℕ) (row : OpenStream) → row_of k rows ≡ Some row → FitsStory asked story rows g → FitsStory asked (tell asked (Closes k) story) (without_stream k rows) g
+closes_row_found : (asked k : ℕ) (story : Story) (rows : List OpenStream) (g : ℕ) (row : OpenStream) → row_of k rows ≡ Some row → FitsStory asked story rows g → FitsStory asked (story_after asked (Closes k) story) (without_stream k rows) g
 closes_row_found asked k story rows g row found fits =
     elim (eqb_tells k asked) [
       | inl e ↦ subst (λ (b : Bool). Fits asked story.opened story.there story.here (b || story.closed) (without_stream k rows) g) (sym e.0)
@@ -254,11 +255,11 @@ closes_row_found asked k story rows g row found fits =
           (removed_other asked k story.opened story.there story.here story.closed rows g e.1 fits)
     ]
 
-closes_by : (asked k : ℕ) (story : Story) (rows : List OpenStream) (g : ℕ) (row : Option OpenStream) → row_of k rows ≡ row → FitsStory asked story rows g → FitsStory asked (tells asked (if_open row (Closes k)) story) (without_stream k rows) g
+closes_by : (asked k : ℕ) (story : Story) (rows : List OpenStream) (g : ℕ) (row : Option OpenStream) → row_of k rows ≡ row → FitsStory asked story rows g → FitsStory asked (story_after_all asked (if_open row (Closes k)) story) (without_stream k rows) g
 closes_by asked k story rows g None found fits = closes_none asked k story rows g found fits
 closes_by asked k story rows g (Some row) found fits = closes_row_found asked k story rows g row found fits
 
-pub closes : (asked k : ℕ) (story : Story) (rows : List OpenStream) (g : ℕ) → FitsStory asked story rows g → FitsStory asked (tells asked (marks_closed k rows) story) (without_stream k rows) g
+pub closes : (asked k : ℕ) (story : Story) (rows : List OpenStream) (g : ℕ) → FitsStory asked story rows g → FitsStory asked (story_after_all asked (marks_closed k rows) story) (without_stream k rows) g
 closes asked k story rows g fits = closes_by asked k story rows g (row_of k rows) refl fits
 
 -- GOAWAY of this end
@@ -267,10 +268,10 @@ or_twice true true c row rest e = refl
 or_twice false true c row rest e = refl
 or_twice x false c row rest e = ap (λ (y : Bool). y || c) e
 
-pub all_closed : (asked : ℕ) (rows : List OpenStream) (story : Story) → tells asked (map closes_row rows) story ≡ record { opened = story.opened; there = story.there; here = story.here; closed = is_some (row_of asked rows) || story.closed }
+pub all_closed : (asked : ℕ) (rows : List OpenStream) (story : Story) → story_after_all asked (map closes_row rows) story ≡ record { opened = story.opened; there = story.there; here = story.here; closed = is_some (row_of asked rows) || story.closed }
 all_closed asked [] story = refl
 all_closed asked (row ∷ rows) story =
-    all_closed asked rows (tell asked (closes_row row) story)
+    all_closed asked rows (story_after asked (closes_row row) story)
     ∙ four story.opened story.there story.here (is_some (row_of asked rows) || (eqb row.stream asked || story.closed)) story.opened story.there story.here (is_some (row_of asked (row ∷ rows)) || story.closed) refl refl refl
     (or_twice (is_some (row_of asked rows)) (eqb row.stream asked) story.closed row (row_of asked rows) refl)
 
@@ -286,7 +287,7 @@ ends_fit asked story rows g fits = record {
   fresh = λ above. let none : row_of asked rows ≡ None = fits.below asked above in let is = fits.fresh above in (is.0, is.1, is.2, ap (λ (r : Option OpenStream). is_some r || story.closed) none ∙ is.3);
 }
 
-pub ends_all : (asked : ℕ) (story : Story) (rows : List OpenStream) (g : ℕ) → FitsStory asked story rows g → FitsStory asked (tells asked (map closes_row rows) story) [] g
+pub ends_all : (asked : ℕ) (story : Story) (rows : List OpenStream) (g : ℕ) → FitsStory asked story rows g → FitsStory asked (story_after_all asked (map closes_row rows) story) [] g
 ends_all asked story rows g fits = subst (λ (x : Story). FitsStory asked x [] g) (sym (all_closed asked rows story)) (ends_fit asked story rows g fits)
 
 -- HEADERS of a stream above the greatest
@@ -298,22 +299,22 @@ above_all asked k o t h c rows g above fits other more = fits.below other (omega
 
 pushed_below : (asked k : ℕ) (o t h c : Bool) (rows : List OpenStream) (g : ℕ) → g < k → Fits asked o t h c rows g → (other : ℕ) → k < other → row_of other (rows ++ new_row k ∷ []) ≡ None
 pushed_below asked k o t h c rows g above fits other more =
-    row_of-push_other other (new_row k) rows (λ e. never k other e more) ∙ above_all asked k o t h c rows g above fits other more
+    row_at-push_other stream_of other (new_row k) rows (λ e. never k other e more) ∙ above_all asked k o t h c rows g above fits other more
 
 pushed_same : (asked k : ℕ) (o t h c : Bool) (rows : List OpenStream) (g : ℕ) → g < k → k ≡ asked → Fits asked o t h c rows g → Fits asked true t h c (rows ++ new_row k ∷ []) k
 pushed_same asked k o t h c rows g above same fits =
     let is : AreFalse o t h c = fits.fresh (subst (λ (n : ℕ). g < n) same above) in record {
-      apart = AreApart-push (new_row k) rows fits.apart (fits.below k above);
+      apart = AreApart-push stream_of (new_row k) rows fits.apart (fits.below k above);
       below = pushed_below asked k o t h c rows g above fits;
-      row = subst (λ (r : Option OpenStream). RowIs true t h c r) (sym (subst (λ (n : ℕ). row_of n (rows ++ new_row k ∷ []) ≡ Some (new_row k)) same (row_of-push_same k (new_row k) rows refl (fits.below k above)))) (opens_new t h c k (is.1, is.2, is.3));
+      row = subst (λ (r : Option OpenStream). RowIs true t h c r) (sym (subst (λ (n : ℕ). row_of n (rows ++ new_row k ∷ []) ≡ Some (new_row k)) same (row_at-push_same stream_of k (new_row k) rows refl (fits.below k above)))) (opens_new t h c k (is.1, is.2, is.3));
       fresh = λ more. never k asked same more;
     }
 
 pushed_other : (asked k : ℕ) (o t h c : Bool) (rows : List OpenStream) (g : ℕ) → g < k → k ≢ asked → Fits asked o t h c rows g → Fits asked o t h c (rows ++ new_row k ∷ []) k
 pushed_other asked k o t h c rows g above ne fits = record {
-  apart = AreApart-push (new_row k) rows fits.apart (fits.below k above);
+  apart = AreApart-push stream_of (new_row k) rows fits.apart (fits.below k above);
   below = pushed_below asked k o t h c rows g above fits;
-  row = subst (λ (r : Option OpenStream). RowIs o t h c r) (sym (row_of-push_other asked (new_row k) rows ne)) fits.row;
+  row = subst (λ (r : Option OpenStream). RowIs o t h c r) (sym (row_at-push_other stream_of asked (new_row k) rows ne)) fits.row;
   fresh = λ more. fits.fresh (omega (arith, above, more));
 }
 
@@ -333,7 +334,7 @@ refused_other asked k o t h c rows g above ne fits = record {
   fresh = λ more. fits.fresh (omega (arith, above, more));
 }
 
-opens_by : (b : Bool) (asked k : ℕ) (story : Story) (rows : List OpenStream) (g : ℕ) → g < k → FitsStory asked story rows g → FitsStory asked (tells asked (cond b (Opens k ∷ []) (Opens k ∷ Closes k ∷ [])) story) (cond b (rows ++ new_row k ∷ []) rows) k
+opens_by : (b : Bool) (asked k : ℕ) (story : Story) (rows : List OpenStream) (g : ℕ) → g < k → FitsStory asked story rows g → FitsStory asked (story_after_all asked (cond b (Opens k ∷ []) (Opens k ∷ Closes k ∷ [])) story) (cond b (rows ++ new_row k ∷ []) rows) k
 opens_by true asked k story rows g above fits =
     elim (eqb_tells k asked) [
       | inl e ↦ subst (λ (b : Bool). Fits asked (b || story.opened) story.there story.here story.closed (rows ++ new_row k ∷ []) k) (sym e.0)
@@ -349,5 +350,5 @@ opens_by false asked k story rows g above fits =
           (refused_other asked k story.opened story.there story.here story.closed rows g above e.1 fits)
     ]
 
-pub opens : (asked k : ℕ) (story : Story) (rows : List OpenStream) (g : ℕ) → g < k → FitsStory asked story rows g → FitsStory asked (tells asked (marks_opening k rows) story) (after_opening k rows) k
+pub opens : (asked k : ℕ) (story : Story) (rows : List OpenStream) (g : ℕ) → g < k → FitsStory asked story rows g → FitsStory asked (story_after_all asked (marks_opening k rows) story) (after_opening k rows) k
 opens asked k story rows g above fits = opens_by (ltb (length rows) OPEN_STREAMS) asked k story rows g above fits

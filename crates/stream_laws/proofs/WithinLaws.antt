@@ -18,8 +18,10 @@ use Rattle.h2_history.specs.History.Entry.{Fed, In, Out, Took}
 use Rattle.h2_history.specs.Puts.{Put, out, fits, goaway, offered, placed, placed_by, placed_all}
 use Rattle.h2_history.specs.Puts.Put.{Plain, Headers}
 use Rattle.h2_history.specs.RunLaws.{after_joined, step_stands, run_stands}
-use Rattle.h2_history.specs.Runs.{Call, Step, IsRun, quiet_entries, data_put}
-use Rattle.h2_history.specs.Runs.Call.{Feed, Tell, Rest, Offer, Send, Take}
+use Rattle.h2_history.specs.Runs.{Offered, puts_of, Call, Step, IsRun, quiet_entries, data_put}
+use Rattle.h2_history.specs.Runs.Call.{Feed, Report, Rest, Offer, Send, Take}
+use Rattle.h2_history.specs.Runs.Offered.{HeaderList, EndOfStream, ResetOfStream, OctetsBack}
+use Rattle.h2_history.specs.Sending.{stream_update}
 use Rattle.h2_history.specs.Settings.{settled}
 use Rattle.h2_history.specs.Standing.{Standing, may_put, first_standing}
 use Rattle.h2_history.specs.Verdicts.{owed, update_due, data_verdict, headers_verdict, reset_verdict, update_verdict}
@@ -28,7 +30,8 @@ use Rattle.h2_layouts.specs.declared.frame.Frame.{Frame}
 use Rattle.h2_layouts.specs.declared.frame.Frame.TheVariants.{Content, Head, Priority, Reset, Settings, SettingsAck, Ping, GoAway, Update, Continued, Unknown}
 use Rattle.h2_layouts.specs.declared.role.Role.{Role}
 use Rattle.h2_layouts.specs.declared.role.Role.TheVariants.{Server, Client}
-use Rattle.stream_laws.specs.NoData.{HasNoData, HaveNoData, PutsNoData, SendsByWindow}
+use Rattle.stream_table.specs.Rows.{is_open}
+use Rattle.stream_laws.specs.NoData.{HasNoData, HaveNoData, PutsNoData, IsNoSend}
 use Rattle.stream_laws.specs.Windows.{window_calls}
 
 -- ---- what is put in answer has no octet of DATA
@@ -162,37 +165,48 @@ within_at entries others s e within = subst (λ (l : List Entry). AreWithin l s)
 least_within : (n stream : ℕ) (s : Standing) → n ≤ may_put stream s → n ≤ may_send stream s.flow
 least_within n stream s within = omega (arith, within)
 
-tell_none : (turns : List Standing) (old last : Standing) → PutsNoData (quiet_entries old turns ++ turn_entries last)
-tell_none turns old last = entries_none (quiet_entries old turns) (turn_entries last) (quiet_none turns old) (by_none last.broken last)
+report_none : (turns : List Standing) (old last : Standing) → PutsNoData (quiet_entries old turns ++ turn_entries last)
+report_none turns old last = entries_none (quiet_entries old turns) (turn_entries last) (quiet_none turns old) (by_none last.broken last)
 
-after_call : (call : Call) (calls : List Call) → SendsByWindow (call ∷ calls) → SendsByWindow calls
-after_call (Feed octets) calls sends = sends
-after_call (Tell event) calls sends = sends
-after_call Rest calls sends = sends
-after_call (Offer puts) calls sends = sends.1
-after_call (Send stream octets) calls sends = sends
-after_call (Take octets) calls sends = sends
+given_none : (role : Role) (is_it_open : Bool) (stream octets : ℕ) → HaveNoData (stream_update role is_it_open stream octets ++ Plain (Update 0 octets) ∷ [])
+given_none Server is_it_open stream octets = (tt, tt)
+given_none Client true stream octets = (tt, (tt, tt))
+given_none Client false stream octets = (tt, tt)
 
-step_within : (call : Call) (calls : List Call) (old : Standing) (entries : List Entry) (new : Standing) → SendsByWindow (call ∷ calls) → Step old call entries new → AreWithin entries old
-step_within (Feed octets) calls old entries new sends step = within_at entries (Fed octets ∷ []) old step.0 tt
-step_within (Tell event) calls old entries new sends step =
-    let others : List Entry = quiet_entries old step.0.reaches.turns ++ turn_entries step.0.last in
-    within_at entries others old step.1 (none_within others old (tell_none step.0.reaches.turns old step.0.last))
-step_within Rest calls old entries new sends step =
-    let others : List Entry = quiet_entries old step.0.reaches.turns in
-    within_at entries others old step.1 (none_within others old (quiet_none step.0.reaches.turns old))
-step_within (Offer puts) calls old entries new sends step =
-    let others : List Entry = outs (placed_all puts old) in
-    within_at entries others old step.0 (none_within others old (outs_none (placed_all puts old) (placed_none puts old sends.0)))
-step_within (Send stream octets) calls old entries new sends step = within_at entries (Out (data_put stream octets) ∷ []) old step.0 (least_within (length octets) stream old step.1, tt)
-step_within (Take octets) calls old entries new sends step = within_at entries (Took octets ∷ []) old step.0 tt
+offer_none : (offer : Offered) (s : Standing) → HaveNoData (puts_of offer s)
+offer_none (HeaderList stream end headers) s = (tt, tt)
+offer_none (EndOfStream stream) s = (refl, tt)
+offer_none (ResetOfStream stream code) s = (tt, tt)
+offer_none (OctetsBack stream octets) s = given_none s.role (is_open stream s.streams) stream octets
 
-pub run_within : (calls : List Call) (old : Standing) (entries : List Entry) (new : Standing) → SendsByWindow calls → IsRun old calls entries new → AreWithin entries old
-run_within [] old entries new sends run = within_at entries [] old run.0 tt
-run_within (call ∷ calls) old entries new sends run =
+none_at : (entries others : List Entry) → entries ≡ others → PutsNoData others → PutsNoData entries
+none_at entries others e none = subst (λ (l : List Entry). PutsNoData l) (sym e) none
+
+-- no octet of DATA is put but by `poll_send`
+pub step_none : (call : Call) (old : Standing) (entries : List Entry) (new : Standing) → IsNoSend call → Step old call entries new → PutsNoData entries
+step_none (Feed octets) old entries new other step = none_at entries (Fed octets ∷ []) step.0 tt
+step_none (Report event) old entries new other step =
+    none_at entries (quiet_entries old step.0.reaches.turns ++ turn_entries step.0.last) step.1 (report_none step.0.reaches.turns old step.0.last)
+step_none Rest old entries new other step = none_at entries (quiet_entries old step.0.reaches.turns) step.1 (quiet_none step.0.reaches.turns old)
+step_none (Offer offer) old entries new other step =
+    none_at entries (outs (placed_all (puts_of offer old) old)) step.0 (outs_none (placed_all (puts_of offer old) old) (placed_none (puts_of offer old) old (offer_none offer old)))
+step_none (Send stream octets) old entries new other step = absurd other
+step_none (Take octets) old entries new other step = none_at entries (Took octets ∷ []) step.0 tt
+
+step_within : (call : Call) (old : Standing) (entries : List Entry) (new : Standing) → Step old call entries new → AreWithin entries old
+step_within (Send stream octets) old entries new step = within_at entries (Out (data_put stream octets) ∷ []) old step.0 (least_within (length octets) stream old step.1, tt)
+step_within (Feed octets) old entries new step = none_within entries old (step_none (Feed octets) old entries new tt step)
+step_within (Report event) old entries new step = none_within entries old (step_none (Report event) old entries new tt step)
+step_within Rest old entries new step = none_within entries old (step_none Rest old entries new tt step)
+step_within (Offer offer) old entries new step = none_within entries old (step_none (Offer offer) old entries new tt step)
+step_within (Take octets) old entries new step = none_within entries old (step_none (Take octets) old entries new tt step)
+
+pub run_within : (calls : List Call) (old : Standing) (entries : List Entry) (new : Standing) → IsRun old calls entries new → AreWithin entries old
+run_within [] old entries new run = within_at entries [] old run.0 tt
+run_within (call ∷ calls) old entries new run =
     within_at entries (run.first ++ run.rest) old run.joined
-    (within_joined run.first run.rest old (step_within call calls old run.first run.between sends run.step)
-    (subst (λ (s : Standing). AreWithin run.rest s) (step_stands call old run.first run.between run.step) (run_within calls run.between run.rest new (after_call call calls sends) run.others)))
+    (within_joined run.first run.rest old (step_within call old run.first run.between run.step)
+    (subst (λ (s : Standing). AreWithin run.rest s) (step_stands call old run.first run.between run.step) (run_within calls run.between run.rest new run.others)))
 
 -- ---- from the beginning of a connection
 
@@ -204,20 +218,20 @@ first_flow : (role : Role) → (first_standing role).flow ≡ first_windows
 first_flow Server = refl
 first_flow Client = refl
 
-all_within : (role : Role) (calls : List Call) (entries : List Entry) (new : Standing) → SendsByWindow calls → IsRun (new_standing role) calls entries new → AreWithin (outs (first_puts role) ++ entries) (first_standing role)
-all_within role calls entries new sends run =
-    within_joined (outs (first_puts role)) entries (first_standing role) (none_within (outs (first_puts role)) (first_standing role) (first_none role)) (run_within calls (new_standing role) entries new sends run)
+all_within : (role : Role) (calls : List Call) (entries : List Entry) (new : Standing) → IsRun (new_standing role) calls entries new → AreWithin (outs (first_puts role) ++ entries) (first_standing role)
+all_within role calls entries new run =
+    within_joined (outs (first_puts role)) entries (first_standing role) (none_within (outs (first_puts role)) (first_standing role) (first_none role)) (run_within calls (new_standing role) entries new run)
 
-all_lead : (role : Role) (calls : List Call) (entries : List Entry) (new : Standing) → SendsByWindow calls → IsRun (new_standing role) calls entries new
+all_lead : (role : Role) (calls : List Call) (entries : List Entry) (new : Standing) → IsRun (new_standing role) calls entries new
     → Rattle.h2_flow.specs.History.IsRun first_windows (window_calls role entries) new.flow
-all_lead role calls entries new sends run =
+all_lead role calls entries new run =
     let all : List Entry = outs (first_puts role) ++ entries in
     let stands : after_all all (first_standing role) ≡ new = after_joined (outs (first_puts role)) entries (first_standing role) ∙ sym (run_stands calls (new_standing role) entries new run) in
     subst (λ (w : Windows). Rattle.h2_flow.specs.History.IsRun w (window_calls role entries) new.flow) (first_flow role)
-    (subst (λ (s : Standing). Rattle.h2_flow.specs.History.IsRun (first_standing role).flow (window_calls role entries) s.flow) stands (flow_leads all (first_standing role) (all_within role calls entries new sends run)))
+    (subst (λ (s : Standing). Rattle.h2_flow.specs.History.IsRun (first_standing role).flow (window_calls role entries) s.flow) stands (flow_leads all (first_standing role) (all_within role calls entries new run)))
 
-pub connection_windows : (role : Role) (calls : List Call) (entries : List Entry) (new : Standing) → SendsByWindow calls → IsRun (new_standing role) calls entries new → AreConnectionSums (window_calls role entries) new.flow
-connection_windows role calls entries new sends run = connection_sums new.flow (window_calls role entries) (all_lead role calls entries new sends run)
+pub connection_windows : (role : Role) (calls : List Call) (entries : List Entry) (new : Standing) → IsRun (new_standing role) calls entries new → AreConnectionSums (window_calls role entries) new.flow
+connection_windows role calls entries new run = connection_sums new.flow (window_calls role entries) (all_lead role calls entries new run)
 
-pub stream_windows : (role : Role) (calls : List Call) (entries : List Entry) (new : Standing) (stream : ℕ) → 0 < stream → SendsByWindow calls → IsRun (new_standing role) calls entries new → AreStreamSums stream (window_calls role entries) new.flow
-stream_windows role calls entries new stream some sends run = stream_sums new.flow (window_calls role entries) stream some (all_lead role calls entries new sends run)
+pub stream_windows : (role : Role) (calls : List Call) (entries : List Entry) (new : Standing) (stream : ℕ) → 0 < stream → IsRun (new_standing role) calls entries new → AreStreamSums stream (window_calls role entries) new.flow
+stream_windows role calls entries new stream some run = stream_sums new.flow (window_calls role entries) stream some (all_lead role calls entries new run)

@@ -5,7 +5,7 @@ use Rattle.h2_history.specs.History.Entry.{Fed, In, Out, Took}
 use Rattle.h2_history.specs.Puts.{Put}
 use Rattle.h2_history.specs.Puts.Put.{Plain}
 use Rattle.h2_history.specs.Runs.{Call}
-use Rattle.h2_history.specs.Runs.Call.{Feed, Tell, Rest, Offer, Send, Take}
+use Rattle.h2_history.specs.Runs.Call.{Send}
 use Rattle.h2_layouts.specs.declared.frame.Frame.TheVariants.{Content}
 
 -- the frame has no octet of DATA
@@ -26,12 +26,7 @@ PutsNoData (In frame ∷ entries) = PutsNoData entries
 PutsNoData (Out put ∷ entries) = HasNoData put × PutsNoData entries
 PutsNoData (Took octets ∷ entries) = PutsNoData entries
 
--- DATA with octets is put by `poll_send` alone, never by a call that offers frames
-abbrev pub SendsByWindow : List Call → Type 0
-SendsByWindow [] = Unit {0}
-SendsByWindow (Feed octets ∷ calls) = SendsByWindow calls
-SendsByWindow (Tell event ∷ calls) = SendsByWindow calls
-SendsByWindow (Rest ∷ calls) = SendsByWindow calls
-SendsByWindow (Offer puts ∷ calls) = HaveNoData puts × SendsByWindow calls
-SendsByWindow (Send stream octets ∷ calls) = SendsByWindow calls
-SendsByWindow (Take octets ∷ calls) = SendsByWindow calls
+-- the call is not `poll_send`
+abbrev pub IsNoSend : Call → Type 0
+IsNoSend (Send stream octets) = ⊥
+IsNoSend call = Unit {0}

@@ -1,3 +1,2 @@
-pub mod Rows
 pub mod IndexLaws
-pub mod RowLaws
+pub mod Rows

@@ -1,6 +1,7 @@
 //! The open streams, in the order in which they were opened.
 ghost use Rattle.std.specs.Prelude.{◌≡◌, [], length, IfOk, IfNone, IfSome};
-ghost use Rattle.stream_table.specs.Rows.{is_open as is_open_in, row_of, with_row, without_stream, after_opening, IsIndexOf, IsClosed};
+ghost use Rattle.h2_flow.specs.KeyedRows.{IsAbsent, IsIndexOf};
+ghost use Rattle.stream_table.specs.Rows.{is_open as is_open_in, row_of, with_row, without_stream, stream_of, after_opening};
 
 use crate::open_stream::OpenStream;
 use esi_base::NoMemory;
@@ -103,8 +104,8 @@ impl StreamTable {
 
 /// Where an open stream stands among the others; None exactly where it is not open.
 fn index_of(rows: &[OpenStream], stream: u32) -> Option<usize>
-    ensures closed { IfNone result (IsClosed stream rows.now) }
-    ensures index { IfSome result (IsIndexOf stream rows.now) }
+    ensures closed { IfNone result (IsAbsent stream_of stream rows.now) }
+    ensures index { IfSome result (IsIndexOf stream_of stream rows.now) }
 {
     rows.iter().position(|row| row.stream == stream)
 }
