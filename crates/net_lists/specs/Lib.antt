@@ -1,0 +1,4 @@
+pub mod Lists
+pub mod ListLaws
+pub mod Runs
+pub mod RunLemmas
