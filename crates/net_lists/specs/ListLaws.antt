@@ -1,15 +1,16 @@
 -- Laws of lists of nets.
-use Rattle.std.specs.Prelude.{◌≡◌, ℕ, zero, suc, ◌+◌, ◌-◌, ◌<◌, ◌≤◌, ◌++◌, ◌∷◌, [], List, Some, length, take, drop, slice_get, Err, IsErrOf, refl}
+use Rattle.std.specs.Prelude.{◌≡◌, ℕ, zero, suc, ◌+◌, ◌-◌, ◌<◌, ◌≤◌, ◌++◌, ◌∷◌, [], Bool, true, List, Some, length, take, drop, slice_get, Result, Ok, Err, IsErrOf, OnOk, refl}
 use Rattle.std.proofs.Common.{sym, ◌∙◌, ap, subst, arith, inl, inr, length-append, append_assoc, get_or}
-use Rattle.std.proofs.lemmas.List.{length_push, take_more, drop_more, get_or_append_left, get_or-append-add, length-take}
+use Rattle.std.proofs.lemmas.List.{length_push, take_more, drop_more, get_or_append_left, get_or-append-add, get_or_push, length-take}
 use Rattle.std.proofs.lemmas.Option.{slice_get-get_or, slice_get_within, get_or_from_slice_get}
 use Rattle.std.proofs.lemmas.List.{take-append-drop}
 use Rattle.netlist.specs.declared.limits.TheConstants.{MAX_NETS}
 use Rattle.netlist.specs.declared.net.Net.{Net}
 use Rattle.netlist.specs.declared.netlist.NetRefused.{NetRefused}
-use Rattle.netlist.specs.declared.net.Net.TheVariants.{Not}
-use Rattle.netlist.specs.Nets.{Fits, width_at, width_in}
-use Rattle.netlist.specs.Plans.{Plan, Stands, with_net, IsPlan}
+use Rattle.netlist.specs.declared.net.Net.TheVariants.{Not, Register}
+use Rattle.netlist.specs.Nets.{Fits, width_at, width_in, is_register}
+use Rattle.netlist.specs.Plans.{Plan, Stands, with_net, net_at, is_register_at, IsPlan, IsNextOf}
+use Rattle.netlist.specs.PlanLaws.{stands_within, net_at-stands}
 use Rattle.net_lists.specs.Lists.{with_nets, FitAll, HasSome, StandFrom, Carries}
 
 append_none : {A : Type 0} (xs : List A) → xs ≡ xs ++ []
@@ -117,3 +118,40 @@ counted_more plan more count = length_push plan.widths (width_in more plan.width
 pub carries_all : (plan : Plan) (net width : ℕ) (nets : List Net) → length plan.widths ≡ length plan.nets → Carries plan net width → Carries (with_nets plan nets) net width
 carries_all plan net width [] count c = c
 carries_all plan net width (more ∷ nets) count c = carries_all (with_net plan more) net width nets (counted_more plan more count) (carries_more plan net width more count c)
+
+-- a net that is added carries its own width
+pub carries_pushed : (plan : Plan) (net : Net) (place width : ℕ) → length plan.widths ≡ length plan.nets → place ≡ length plan.nets → width_in net plan.widths ≡ width → Carries (with_net plan net) place width
+carries_pushed plan net place width count here wide = record {
+  below = omega (arith, here, length_push plan.nets net);
+  wide = get_or_push plan.widths (width_in net plan.widths) 0 place (count ∙ sym here) ∙ wide;
+}
+
+pub place_more : (plan : Plan) (net : Net) (place next : ℕ) → place ≡ length plan.nets → next ≡ place + 1 → next ≡ length (with_net plan net).nets
+place_more plan net place next here e = omega (arith, here, e, length_push plan.nets net)
+
+-- a register carries its reset's width
+pub register_carries : (plan : Plan) (register width : ℕ) (reset : List Bool) → IsPlan plan → Stands plan.nets register (Register reset) → length reset ≡ width → Carries plan register width
+register_carries plan register width reset kept s e = record { below = stands_within plan.nets register (Register reset) s; wide = (kept.fit register (Register reset) s).own ∙ e }
+
+-- nets that carry one width fit an operator on such
+pub fit_two : (plan : Plan) (a b width : ℕ) → Carries plan a width → Carries plan b width → (a < length plan.nets) × (b < length plan.nets) × (width_at plan.widths a ≡ width_at plan.widths b)
+fit_two plan a b width ca cb = (ca.below, cb.below, ca.wide ∙ sym cb.wide)
+
+pub fit_choice : (plan : Plan) (test one other width : ℕ) → Carries plan test 1 → Carries plan one width → Carries plan other width
+    → (test < length plan.nets) × (one < length plan.nets) × (other < length plan.nets) × (width_at plan.widths test ≡ 1) × (width_at plan.widths one ≡ width_at plan.widths other)
+fit_choice plan test one other width ct c1 c2 = (ct.below, c1.below, c2.below, ct.wide, c1.wide ∙ sym c2.wide)
+
+-- ---- next nets
+
+pub may_link : (plan : Plan) (register next width : ℕ) → is_register_at plan.nets register ≡ true → Carries plan register width → Carries plan next width → IsNextOf plan register next
+may_link plan register next width is cr cn = record { is_one = is; within = cn.below; same = cn.wide ∙ sym cr.wide }
+
+pub register_kept : (plan : Plan) (nets : List Net) (register : ℕ) (reset : List Bool) → Stands plan.nets register (Register reset) → is_register_at (with_nets plan nets).nets register ≡ true
+register_kept plan nets register reset s =
+    let lt = stands_within plan.nets register (Register reset) s in
+    ap is_register (ap (λ ns. net_at ns register) (with_nets-nets plan nets) ∙ get_or_append_left plan.nets nets (Not 0) register lt ∙ net_at-stands plan.nets register (Register reset) s)
+
+-- what holds on Ok may be put otherwise
+pub on_ok : {A E : Type 0} (result : Result A E) (P Q : Type 0) → (P → Q) → OnOk result P → OnOk result Q
+on_ok (Ok value) P Q f h = f h
+on_ok (Err error) P Q f h = h
