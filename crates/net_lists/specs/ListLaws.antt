@@ -155,3 +155,13 @@ register_kept plan nets register reset s =
 pub on_ok : {A E : Type 0} (result : Result A E) (P Q : Type 0) → (P → Q) → OnOk result P → OnOk result Q
 on_ok (Ok value) P Q f h = f h
 on_ok (Err error) P Q f h = h
+
+-- ---- lists that fit, one behind the other
+
+pub fit_append : (plan : Plan) (front back : List Net) → FitAll plan front → FitAll (with_nets plan front) back → FitAll plan (front ++ back)
+fit_append plan [] back f g = g
+fit_append plan (net ∷ front) back f g = (f.0, fit_append (with_net plan net) front back f.1 g)
+
+pub counted_all : (plan : Plan) (nets : List Net) → length plan.widths ≡ length plan.nets → length (with_nets plan nets).widths ≡ length (with_nets plan nets).nets
+counted_all plan [] count = count
+counted_all plan (net ∷ nets) count = counted_all (with_net plan net) nets (counted_more plan net count)

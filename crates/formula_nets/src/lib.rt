@@ -1,0 +1,2 @@
+//! The nets of formulas.
+#![tactic(auto)]
