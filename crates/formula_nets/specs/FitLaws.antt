@@ -1,8 +1,9 @@
 -- The nets of a formula fit behind what stands, and the last one is as wide as the formula.
-use Rattle.std.specs.Prelude.{◌≡◌, ℕ, zero, suc, ◌+◌, ◌-◌, ◌<◌, ◌≤◌, Bool, true, List, [], ◌∷◌, ◌++◌, Option, Some, None, length, map, slice_get, refl}
+use Rattle.std.specs.Prelude.{◌≡◌, ℕ, zero, suc, ◌+◌, ◌-◌, ◌<◌, ◌≤◌, Bool, true, List, [], ◌∷◌, ◌++◌, Option, Some, None, length, map, slice_get, IsSome, refl}
 use Rattle.std.specs.List.{slice_index_or}
 use Rattle.std.proofs.Common.{sym, ◌∙◌, ap, subst, arith, length-append, append_assoc}
-use Rattle.std.proofs.lemmas.Option.{same_Some}
+use Rattle.std.proofs.lemmas.Option.{same_Some, slice_get_within, get_or_from_slice_get}
+use Rattle.std.proofs.lemmas.List.{length-map, get_or-map}
 use Rattle.netlist.specs.declared.limits.TheConstants.{MAX_WIDTH, MAX_NUMBER_WIDTH}
 use Rattle.netlist.specs.declared.net.Net.{Net}
 use Rattle.netlist.specs.declared.net.Net.TheVariants.{Const, Not, And, Or, Xor, Add, Sub, Equal, Less, Choose, Slice, Concat}
@@ -19,7 +20,7 @@ use Rattle.netlist.specs.FormulaLaws.{both_sizes, number_size, bit_size, choose_
 use Rattle.net_lists.specs.Lists.{with_nets, FitAll, Carries}
 use Rattle.net_lists.specs.ListLaws.{with_nets-append, length-with_nets, carries_all, carries_pushed, fit_append, counted_all, fit_two, fit_choice}
 use Rattle.formula_nets.specs.MadeLaws.{some_bit}
-use Rattle.formula_nets.specs.Making.{Made, Making, standing, lone, of_one, of_two, of_three, join_net, joined_to, of_parts, making_step, making, formula_nets, formula_net, IsFormulaReady}
+use Rattle.formula_nets.specs.Making.{Made, Making, standing, lone, of_one, of_two, of_three, join_net, joined_to, of_parts, making_step, making, formula_nets, formula_net, formula_size, IsFormulaReady}
 
 module _ (variables : List ℕ) (widths : List ℕ) where
   -- the variables are carried by nets of these widths
@@ -211,12 +212,23 @@ module _ (variables : List ℕ) (widths : List ℕ) where
   last_carries plan formula width at e here c = (fits_behind plan formula width at e here c).carries
 
 -- the same, of a formula that may be pushed
-carried_widths : (plan : Plan) (variables : List ℕ) (formula : Formula) (width : ℕ) → length plan.widths ≡ length plan.nets → IsFormulaReady plan variables formula width → AreCarried variables (map (width_at plan.widths) variables) plan
-carried_widths plan variables formula width count r = record { count = count; each = r.carried }
+carried_widths : (plan : Plan) (variables : List ℕ) (formula : Formula) → length plan.widths ≡ length plan.nets → IsFormulaReady plan variables formula → AreCarried variables (map (width_at plan.widths) variables) plan
+carried_widths plan variables formula count r = record {
+  count = count;
+  each = λ i w e.
+      let all : List ℕ = map (width_at plan.widths) variables in
+      let lt : i < length variables = subst (λ k. i < k) (length-map variables (width_at plan.widths)) (slice_get_within all i w e) in
+      record { below = r.standing i lt; wide = sym (get_or-map (width_at plan.widths) variables i 0 0 lt) ∙ get_or_from_slice_get all i w 0 e };
+}
 
-pub ready_fits : (plan : Plan) (variables : List ℕ) (formula : Formula) (width at : ℕ) → length plan.widths ≡ length plan.nets → at ≡ length plan.nets → IsFormulaReady plan variables formula width → FitAll plan (formula_nets variables formula at)
-ready_fits plan variables formula width at count here r = all_fit variables (map (width_at plan.widths) variables) plan formula width at r.good here (carried_widths plan variables formula width count r)
+fits_of : (plan : Plan) (variables : List ℕ) (formula : Formula) (width : Option ℕ) → formula_size plan variables formula ≡ width → IsSome width → length plan.widths ≡ length plan.nets → IsFormulaReady plan variables formula
+    → FitAll plan (formula_nets variables formula (length plan.nets))
+fits_of plan variables formula None e good count r = absurd (cc)
+fits_of plan variables formula (Some width) e good count r = all_fit variables (map (width_at plan.widths) variables) plan formula width (length plan.nets) e refl (carried_widths plan variables formula count r)
 
-pub ready_carries : (plan : Plan) (variables : List ℕ) (formula : Formula) (width at : ℕ) → length plan.widths ≡ length plan.nets → at ≡ length plan.nets → IsFormulaReady plan variables formula width
-    → Carries (with_nets plan (formula_nets variables formula at)) (formula_net variables formula at) width
-ready_carries plan variables formula width at count here r = last_carries variables (map (width_at plan.widths) variables) plan formula width at r.good here (carried_widths plan variables formula width count r)
+pub ready_fits : (plan : Plan) (variables : List ℕ) (formula : Formula) → length plan.widths ≡ length plan.nets → IsFormulaReady plan variables formula → FitAll plan (formula_nets variables formula (length plan.nets))
+ready_fits plan variables formula count r = fits_of plan variables formula (formula_size plan variables formula) refl r.good count r
+
+pub ready_carries : (plan : Plan) (variables : List ℕ) (formula : Formula) (width : ℕ) → length plan.widths ≡ length plan.nets → IsFormulaReady plan variables formula → formula_size plan variables formula ≡ Some width
+    → Carries (with_nets plan (formula_nets variables formula (length plan.nets))) (formula_net variables formula (length plan.nets)) width
+ready_carries plan variables formula width count r e = last_carries variables (map (width_at plan.widths) variables) plan formula width (length plan.nets) e refl (carried_widths plan variables formula count r)

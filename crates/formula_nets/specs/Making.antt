@@ -1,5 +1,5 @@
 -- The nets of a formula: those of its operands, from the first one to the last, then the net of its own operator.
-use Rattle.std.specs.Prelude.{◌≡◌, ℕ, ◌+◌, List, [], ◌∷◌, ◌++◌, Some, length, map, slice_get}
+use Rattle.std.specs.Prelude.{◌≡◌, ℕ, ◌+◌, List, [], ◌∷◌, ◌++◌, Some, length, map, ◌<◌, Option, IsSome}
 use Rattle.std.specs.List.{slice_index_or}
 use Rattle.netlist.specs.declared.net.Net.{Net}
 use Rattle.netlist.specs.declared.net.Net.TheVariants.{Const, Not, And, Or, Xor, Add, Sub, Equal, Less, Choose, Slice, Concat}
@@ -12,7 +12,7 @@ use Rattle.netlist.specs.Nets.{Bits, width_at, word_at}
 use Rattle.netlist.specs.Plans.{Plan}
 use Rattle.netlist.specs.Settled.{IsSettled}
 use Rattle.netlist.specs.Formulas.{worth, size}
-use Rattle.net_lists.specs.Lists.{StandFrom, Carries}
+use Rattle.net_lists.specs.Lists.{StandFrom}
 
 -- nets in order, and the number of the net that carries the word of what they compute
 pub record Made : Type 0 where
@@ -97,10 +97,14 @@ formula_nets variables formula at = (making variables formula at).nets
 abbrev pub formula_net : List ℕ → Formula → ℕ → ℕ
 formula_net variables formula at = (making variables formula at).net
 
--- A formula may be pushed: its variables are carried by nets that there are, and it is good for their widths, and then so wide.
-pub record IsFormulaReady (plan : Plan) (variables : List ℕ) (formula : Formula) (width : ℕ) : Type 0 where
-  pub carried : (i w : ℕ) → slice_get (map (width_at plan.widths) variables) i ≡ Some w → Carries plan (slice_index_or variables i 0) w
-  pub good : size (map (width_at plan.widths) variables) formula ≡ Some width
+-- how wide a formula is whose variables are carried by these nets
+abbrev pub formula_size : Plan → List ℕ → Formula → Option ℕ
+formula_size plan variables formula = size (map (width_at plan.widths) variables) formula
+
+-- A formula may be pushed: its variables are carried by nets that there are, and it is good for their widths.
+pub record IsFormulaReady (plan : Plan) (variables : List ℕ) (formula : Formula) : Type 0 where
+  pub standing : (i : ℕ) → i < length variables → slice_index_or variables i 0 < length plan.nets
+  pub good : IsSome (formula_size plan variables formula)
 
 -- Where the nets of a formula stand in a netlist, in every settled assignment the last of them carries what the formula is worth.
 abbrev pub FormulasCompute : Type 0
