@@ -14,7 +14,7 @@ use Rattle.netlist.specs.declared.formula.Formula.TheOpen.{Formula-F}
 use Rattle.netlist.specs.declared.formula.Formula.TheViews.{roll-Formula}
 use Rattle.netlist.specs.declared.formula.Formula.TheFolds as folds
 use Rattle.netlist.specs.Nets.{Bits, width_at, width_in, Fits}
-use Rattle.netlist.specs.Plans.{Plan, with_net}
+use Rattle.netlist.specs.Plans.{Plan, IsPlan, with_net}
 use Rattle.netlist.specs.Formulas.{size_join, size_step, size}
 use Rattle.netlist.specs.FormulaLaws.{both_sizes, number_size, bit_size, choose_size, slice_size, concat_size}
 use Rattle.net_lists.specs.Lists.{with_nets, FitAll, Carries}
@@ -232,3 +232,13 @@ ready_fits plan variables formula count r = fits_of plan variables formula (form
 pub ready_carries : (plan : Plan) (variables : List ℕ) (formula : Formula) (width : ℕ) → length plan.widths ≡ length plan.nets → IsFormulaReady plan variables formula → formula_size plan variables formula ≡ Some width
     → Carries (with_nets plan (formula_nets variables formula (length plan.nets))) (formula_net variables formula (length plan.nets)) width
 ready_carries plan variables formula width count r e = last_carries variables (map (width_at plan.widths) variables) plan formula width (length plan.nets) e refl (carried_widths plan variables formula count r)
+
+pub listed_fits : (plan : Plan) (variables : List ℕ) (formula : Formula) (base : ℕ) (all : List Net) → IsPlan plan → IsFormulaReady plan variables formula → base ≡ length plan.nets → all ≡ formula_nets variables formula base → FitAll plan all
+listed_fits plan variables formula base all kept r here is =
+    subst (λ ns. FitAll plan ns) (sym (is ∙ ap (formula_nets variables formula) here)) (ready_fits plan variables formula kept.width_count r)
+
+pub listed_carries : (plan new : Plan) (variables : List ℕ) (formula : Formula) (base net : ℕ) (all : List Net) → IsPlan plan → IsFormulaReady plan variables formula → base ≡ length plan.nets → all ≡ formula_nets variables formula base
+    → net ≡ formula_net variables formula base → new ≡ with_nets plan all → (width : ℕ) → formula_size plan variables formula ≡ Some width → Carries new net width
+listed_carries plan new variables formula base net all kept r here is net_is pushed width e =
+    subst (λ (p : Plan). Carries p net width) (sym (pushed ∙ ap (with_nets plan) (is ∙ ap (formula_nets variables formula) here)))
+    (subst (λ n. Carries (with_nets plan (formula_nets variables formula (length plan.nets))) n width) (sym (net_is ∙ ap (formula_net variables formula) here)) (ready_carries plan variables formula width kept.width_count r e))

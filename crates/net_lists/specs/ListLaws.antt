@@ -11,7 +11,7 @@ use Rattle.netlist.specs.declared.net.Net.TheVariants.{Not, Register}
 use Rattle.netlist.specs.Nets.{Fits, width_at, width_in, is_register}
 use Rattle.netlist.specs.Plans.{Plan, Stands, with_net, net_at, is_register_at, IsPlan, IsNextOf}
 use Rattle.netlist.specs.PlanLaws.{stands_within, net_at-stands}
-use Rattle.net_lists.specs.Lists.{with_nets, FitAll, HasSome, StandFrom, Carries}
+use Rattle.net_lists.specs.Lists.{with_nets, FitAll, HasSome, HasFront, StandFrom, Carries}
 
 append_none : {A : Type 0} (xs : List A) → xs ≡ xs ++ []
 append_none [] = refl
@@ -165,3 +165,11 @@ fit_append plan (net ∷ front) back f g = (f.0, fit_append (with_net plan net) 
 pub counted_all : (plan : Plan) (nets : List Net) → length plan.widths ≡ length plan.nets → length (with_nets plan nets).widths ≡ length (with_nets plan nets).nets
 counted_all plan [] count = count
 counted_all plan (net ∷ nets) count = counted_all (with_net plan net) nets (counted_more plan net count)
+
+-- ---- what a netlist has got
+
+pub has_none : (plan : Plan) (nets : List Net) → HasFront plan plan nets
+has_none plan nets = record { count = 0; within = omega arith; is = refl }
+
+pub has_front : (old new : Plan) (nets : List Net) → HasSome old new nets → HasFront old new nets
+has_front old new nets h = record { count = h.count; within = omega (arith, h.fewer); is = h.is }

@@ -1,5 +1,5 @@
 -- Lists of nets that are added to a netlist at its end, and where they stand in every netlist that has them.
-use Rattle.std.specs.Prelude.{◌≡◌, ℕ, ◌+◌, ◌<◌, List, [], ◌∷◌, length, take, slice_get, Some}
+use Rattle.std.specs.Prelude.{◌≡◌, ℕ, ◌+◌, ◌<◌, ◌≤◌, List, [], ◌∷◌, length, take, slice_get, Some}
 use Rattle.netlist.specs.declared.net.Net.{Net}
 use Rattle.netlist.specs.Nets.{Fits, width_at}
 use Rattle.netlist.specs.Plans.{Plan, Stands, with_net}
@@ -18,6 +18,12 @@ FitAll plan (net ∷ nets) = Fits net (length plan.nets) plan.widths × FitAll (
 pub record HasSome (old new : Plan) (nets : List Net) : Type 0 where
   pub count : ℕ
   pub fewer : count < length nets
+  pub is : new ≡ with_nets old (take count nets)
+
+-- the netlist has got the first ones of the nets, maybe none, maybe all
+pub record HasFront (old new : Plan) (nets : List Net) : Type 0 where
+  pub count : ℕ
+  pub within : count ≤ length nets
   pub is : new ≡ with_nets old (take count nets)
 
 -- a list of nets stands in a netlist, from a place on
