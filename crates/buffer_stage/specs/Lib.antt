@@ -1,3 +1,4 @@
 pub mod Stage
 pub mod StageFits
 pub mod StageLemmas
+pub mod Signalling

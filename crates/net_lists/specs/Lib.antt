@@ -2,3 +2,4 @@ pub mod Lists
 pub mod ListLaws
 pub mod Runs
 pub mod RunLemmas
+pub mod Passing
