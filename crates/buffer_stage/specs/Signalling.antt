@@ -1,17 +1,14 @@
 -- The nets that change a channel's signalling: from valid-ready to FIFO signalling, and back.
-use Rattle.std.specs.Prelude.{◌≡◌, ℕ, ◌+◌, not, Bool, true, false, List, [], ◌∷◌, refl}
-use Rattle.std.proofs.Common.{sym, ◌∙◌, ap}
+use Rattle.std.specs.Prelude.{◌≡◌, ℕ, not, Bool, true, false, List, [], ◌∷◌, refl}
+use Rattle.std.proofs.Common.{◌∙◌, ap}
 use Rattle.netlist.specs.declared.net.Net.{Net}
 use Rattle.netlist.specs.declared.net.Net.TheVariants.{Not, And}
-use Rattle.netlist.specs.Nets.{Bits, word_at}
+use Rattle.netlist.specs.Nets.{Bits}
 use Rattle.netlist.specs.Plans.{Plan}
-use Rattle.element_laws.specs.Histories.{Channel}
-use Rattle.element_laws.specs.Elements.{nothing}
 use Rattle.element_laws.specs.Elements.Element.{as_fifo, as_vr}
-use Rattle.element_wires.specs.Wires.{IsWired}
 use Rattle.net_lists.specs.Lists.{StandFrom, Carries}
 use Rattle.net_lists.specs.ListLaws.{stand_first}
-use Rattle.net_lists.specs.Runs.{bit_of, bit_at, carried, fifo_carried, IsNetRun, IsNetCycle}
+use Rattle.net_lists.specs.Runs.{bit_of, bit_at, carried, fifo_carried, IsNetRun}
 use Rattle.net_lists.specs.RunLemmas.{computed_word, bit_word, and_bits, not_bits}
 use Rattle.net_lists.specs.Passing.{ObeysAlone, passing_obeys}
 
@@ -62,18 +59,18 @@ pub as_fifos_do_obey : AsFifosObey
 as_fifos_do_obey plan s empty offers history has run =
     passing_obeys plan offers history as_fifo _ _ refl
     (λ earlier words c.
-        let iv = bit_word plan earlier words s.valid c has.valid.wide in
-        let e : bit_at empty words ≡ not (bit_at s.valid words) = ap bit_of (computed_word plan earlier words empty (Not s.valid) c refl (stand_first plan.nets empty _ _ has.nets) ∙ not_bits _ _ iv) in
-        record { valid = ap not e ∙ twice (bit_at s.valid words); word = refl; ready = refl })
+    let iv = bit_word plan earlier words s.valid c has.valid.wide in
+    let e : bit_at empty words ≡ not (bit_at s.valid words) = ap bit_of (computed_word plan earlier words empty (Not s.valid) c refl (stand_first plan.nets empty _ _ has.nets) ∙ not_bits _ _ iv) in
+    record { valid = ap not e ∙ twice (bit_at s.valid words); word = refl; ready = refl })
     run
 
 pub as_vrs_do_obey : AsVrsObey
 as_vrs_do_obey plan s valid rden offers history has run =
     passing_obeys plan offers history as_vr _ _ refl
     (λ earlier words c.
-        let e = bit_word plan earlier words s.valid c has.empty.wide in
-        let ready = bit_word plan earlier words s.ready c has.ready.wide in
-        let v = computed_word plan earlier words valid (Not s.valid) c refl (stand_first plan.nets valid _ _ has.forward) ∙ not_bits _ _ e in
-        let n = computed_word plan earlier words rden (And s.ready valid) c refl (stand_first plan.nets rden _ _ has.backward) ∙ and_bits _ _ _ _ ready v in
-        record { valid = ap bit_of v; word = refl; ready = ap bit_of n })
+    let e = bit_word plan earlier words s.valid c has.empty.wide in
+    let ready = bit_word plan earlier words s.ready c has.ready.wide in
+    let v = computed_word plan earlier words valid (Not s.valid) c refl (stand_first plan.nets valid _ _ has.forward) ∙ not_bits _ _ e in
+    let n = computed_word plan earlier words rden (And s.ready valid) c refl (stand_first plan.nets rden _ _ has.backward) ∙ and_bits _ _ _ _ ready v in
+    record { valid = ap bit_of v; word = refl; ready = ap bit_of n })
     run

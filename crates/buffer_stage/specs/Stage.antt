@@ -10,7 +10,7 @@ use Rattle.element_laws.specs.Elements.Element.{stage}
 use Rattle.element_wires.specs.Wires.{StageRegisters, stage_words}
 use Rattle.element_wires.specs.WireLaws.{IsStageRun, holding}
 use Rattle.net_lists.specs.Lists.{StandFrom, Carries}
-use Rattle.net_lists.specs.Runs.{ChannelNets, carried, bit_at, IsNetRun}
+use Rattle.net_lists.specs.Runs.{carried, bit_at, IsNetRun}
 use Rattle.buffer_stage.specs.declared.stage.StageNets.{StageNets}
 
 -- V0, V1, D0, D1

@@ -1,15 +1,14 @@
 -- The nets of a stage fit behind what stands before them, and its registers may take their words from them.
-use Rattle.std.specs.Prelude.{◌≡◌, ℕ, ◌+◌, ◌<◌, Bool, false, true, List, [], ◌∷◌, Some, length, replicate, refl}
-use Rattle.std.proofs.Common.{sym, ◌∙◌, ap, subst, arith}
+use Rattle.std.specs.Prelude.{◌≡◌, ℕ, ◌+◌, false, [], ◌∷◌, length, replicate, refl}
+use Rattle.std.proofs.Common.{arith}
 use Rattle.std.proofs.lemmas.List.{length-replicate}
 use Rattle.netlist.specs.declared.net.Net.{Net}
 use Rattle.netlist.specs.declared.net.Net.TheVariants.{Register, Not, And, Or, Choose}
-use Rattle.netlist.specs.Nets.{width_at}
 use Rattle.netlist.specs.Plans.{Plan, Stands, with_net, IsPlan}
 use Rattle.net_lists.specs.Lists.{with_nets, FitAll, Carries}
 use Rattle.net_lists.specs.ListLaws.{stand_first, counted_more, place_more, carries_more, carries_pushed, register_carries, register_kept, fit_two, fit_choice, may_link}
 use Rattle.buffer_stage.specs.declared.stage.StageNets.{StageNets}
-use Rattle.buffer_stage.specs.Stage.{stage_registers, stage_next, CanLink, IsStageReady}
+use Rattle.buffer_stage.specs.Stage.{stage_next, CanLink, IsStageReady}
 
 module _ (plan : Plan) (s : StageNets) (at : ℕ) (kept : IsPlan plan) (here : at ≡ length plan.nets) (r : IsStageReady plan s) where
   k0 : length plan.widths ≡ length plan.nets

@@ -1,27 +1,20 @@
 -- From the nets of a stage to its wires, and to its law.
-use Rattle.std.specs.Prelude.{◌≡◌, ℕ, ◌+◌, ◌&&◌, ◌||◌, not, if◌then◌else◌, Bool, true, false, List, [], ◌∷◌, Some, replicate, slice_get, refl}
-use Rattle.std.proofs.Common.{sym, ◌∙◌, ap, subst, arith}
-use Rattle.esi_base.specs.Bits.{number_of, zip_bits}
-use Rattle.netlist.specs.declared.net.Net.{Net}
+use Rattle.std.specs.Prelude.{◌≡◌, ℕ, ◌+◌, ◌&&◌, ◌||◌, not, if◌then◌else◌, false, List, [], ◌∷◌, replicate, refl}
+use Rattle.std.proofs.Common.{◌∙◌, ap}
 use Rattle.netlist.specs.declared.net.Net.TheVariants.{Register, Not, And, Or, Choose}
-use Rattle.netlist.specs.Nets.{Bits, word_at, width_at, result_of}
-use Rattle.netlist.specs.Plans.{Plan, Stands, next_of, IsPlan}
-use Rattle.netlist.specs.Settled.{operands}
-use Rattle.element_laws.specs.Signals.{Signals}
-use Rattle.element_laws.specs.Histories.{Channel, KeepsOffers, reached, IsRun}
-use Rattle.element_laws.specs.Laws.{Obeys}
+use Rattle.netlist.specs.Nets.{Bits, word_at, width_at}
+use Rattle.netlist.specs.Plans.{Plan, Stands, IsPlan}
+use Rattle.element_laws.specs.Histories.{reached}
 use Rattle.element_laws.specs.ElementLemmas.{each_obeys}
-use Rattle.element_laws.specs.Elements.{Contents, reset}
 use Rattle.element_laws.specs.Elements.Element.{stage}
 use Rattle.element_wires.specs.Wires.{StageRegisters, StageWires, stage_words, stays, follows, newest}
 use Rattle.element_wires.specs.WireLaws.{IsStageRun, holding}
 use Rattle.element_wires.specs.WireLemmas.{stages_run}
-use Rattle.net_lists.specs.Lists.{StandFrom, Carries}
 use Rattle.net_lists.specs.ListLaws.{stand_first}
-use Rattle.net_lists.specs.Runs.{ChannelNets, carried, bit_of, bit_at, IsNetRun, IsNetCycle, AreNetCycles}
+use Rattle.net_lists.specs.Runs.{bit_of, bit_at, IsNetCycle, AreNetCycles}
 use Rattle.net_lists.specs.RunLemmas.{register_word, run_cycles, run_of, word_in, computed_word, bit_word, and_bits, or_bits, not_bits, choose_bits}
 use Rattle.buffer_stage.specs.declared.stage.StageNets.{StageNets}
-use Rattle.buffer_stage.specs.Stage.{stage_registers, stage_ready, stage_next, HasStage, stage_input, stage_output, stage_now, stage_start, stage_after, StageRuns, StagesObey}
+use Rattle.buffer_stage.specs.Stage.{stage_next, HasStage, stage_input, stage_output, stage_now, stage_start, stage_after, StageRuns, StagesObey}
 
 same_registers : (a b : StageRegisters) → a.v0 ≡ b.v0 → a.v1 ≡ b.v1 → a.d0 ≡ b.d0 → a.d1 ≡ b.d1 → a ≡ b
 same_registers a b e0 e1 e2 e3 =

@@ -8,6 +8,4 @@ pub mod stage;
 pub use signalling::{
     as_fifos_obey, as_vrs_obey, push_as_fifo_empty, push_as_vr_rden, push_as_vr_valid,
 };
-pub use stage::{
-    StageNets, push_stage_next, push_stage_ready, push_stage_registers, stages_obey,
-};
+pub use stage::{StageNets, push_stage_next, push_stage_ready, push_stage_registers, stages_obey};

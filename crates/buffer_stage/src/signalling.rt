@@ -40,11 +40,7 @@ pub fn push_as_vr_valid(netlist: &mut Netlist, empty: u32) -> Result<u32, NetRef
 }
 
 /// Adds the net of `rden` of an as_vr, of the ready of its output and its own valid net, and tells its number.
-pub fn push_as_vr_rden(
-    netlist: &mut Netlist,
-    ready: u32,
-    valid: u32,
-) -> Result<u32, NetRefused>
+pub fn push_as_vr_rden(netlist: &mut Netlist, ready: u32, valid: u32) -> Result<u32, NetRefused>
     requires ready { Carries netlist.old ready 1 }
     requires valid { Carries netlist.old valid 1 }
     ensures pushed { OnOk result (netlist.new ≡ with_nets netlist.old (as_vr_rden ready valid)) }

@@ -1,12 +1,11 @@
 -- The nets of a join: a word of two channels each, joined.
-use Rattle.std.specs.Prelude.{◌≡◌, ℕ, ◌+◌, ◌≤◌, ◌==◌, List, [], ◌∷◌, if◌then◌else◌, length, refl}
+use Rattle.std.specs.Prelude.{ℕ, ◌+◌, ◌≤◌, ◌==◌, List, [], ◌∷◌, if◌then◌else◌, length, refl}
 use Rattle.std.proofs.Common.{◌∙◌, ap}
 use Rattle.netlist.specs.declared.limits.TheConstants.{MAX_WIDTH}
 use Rattle.netlist.specs.declared.net.Net.{Net}
 use Rattle.netlist.specs.declared.net.Net.TheVariants.{And, Concat}
-use Rattle.netlist.specs.Nets.{Bits, width_at, word_at}
+use Rattle.netlist.specs.Nets.{Bits, width_at}
 use Rattle.netlist.specs.Plans.{Plan}
-use Rattle.element_laws.specs.Signals.{Signals}
 use Rattle.element_laws.specs.Histories.{Channel}
 use Rattle.element_laws.specs.Elements.Element.{join}
 use Rattle.net_lists.specs.Lists.{StandFrom, Carries}
@@ -52,12 +51,12 @@ pub joins_do_obey : JoinsObey
 joins_do_obey plan s ready forward backward offers history has run =
     passing_obeys plan offers history join _ _ refl
     (λ earlier words c.
-        let lv = bit_word plan earlier words s.left_valid c has.left.wide in
-        let rv = bit_word plan earlier words s.right_valid c has.right.wide in
-        let out = bit_word plan earlier words ready c has.ready_bit.wide in
-        let v = computed_word plan earlier words forward (And s.left_valid s.right_valid) c refl (stand_first plan.nets forward _ _ has.front) ∙ and_bits _ _ _ _ lv rv in
-        let d = word_in plan earlier words forward (join_forward s) 1 (Concat s.left_word s.right_word) c has.front refl refl in
-        let l = computed_word plan earlier words backward (And ready s.right_valid) c refl (stand_first plan.nets backward _ _ has.back) ∙ and_bits _ _ _ _ out rv in
-        let r = word_in plan earlier words backward (join_backward s ready) 1 (And ready s.left_valid) c has.back refl refl ∙ and_bits _ _ _ _ out lv in
-        record { valid = ap bit_of v; word = d; left_ready = ap bit_of l; right_ready = ap bit_of r })
+    let lv = bit_word plan earlier words s.left_valid c has.left.wide in
+    let rv = bit_word plan earlier words s.right_valid c has.right.wide in
+    let out = bit_word plan earlier words ready c has.ready_bit.wide in
+    let v = computed_word plan earlier words forward (And s.left_valid s.right_valid) c refl (stand_first plan.nets forward _ _ has.front) ∙ and_bits _ _ _ _ lv rv in
+    let d = word_in plan earlier words forward (join_forward s) 1 (Concat s.left_word s.right_word) c has.front refl refl in
+    let l = computed_word plan earlier words backward (And ready s.right_valid) c refl (stand_first plan.nets backward _ _ has.back) ∙ and_bits _ _ _ _ out rv in
+    let r = word_in plan earlier words backward (join_backward s ready) 1 (And ready s.left_valid) c has.back refl refl ∙ and_bits _ _ _ _ out lv in
+    record { valid = ap bit_of v; word = d; left_ready = ap bit_of l; right_ready = ap bit_of r })
     run

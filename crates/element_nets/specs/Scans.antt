@@ -1,6 +1,6 @@
 -- The nets of a scan: its state, those of its body, whose variables are the state and the word that comes in, and what the state is next.
-use Rattle.std.specs.Prelude.{◌≡◌, ℕ, ◌+◌, ◌&&◌, if◌then◌else◌, length, List, [], ◌∷◌, Some, refl}
-use Rattle.std.proofs.Common.{sym, ◌∙◌, ap, arith}
+use Rattle.std.specs.Prelude.{◌≡◌, ℕ, ◌+◌, length, List, [], ◌∷◌, Some, refl}
+use Rattle.std.proofs.Common.{◌∙◌, ap, arith}
 use Rattle.netlist.specs.declared.net.Net.{Net}
 use Rattle.netlist.specs.declared.net.Net.TheVariants.{Register, And, Choose}
 use Rattle.netlist.specs.declared.formula.Formula.{Formula}
@@ -16,7 +16,7 @@ use Rattle.element_wires.specs.Wires.{IsWired}
 use Rattle.element_wires.specs.WireLemmas.{wires_make_runs}
 use Rattle.net_lists.specs.Lists.{with_nets, FitAll, StandFrom, Carries}
 use Rattle.net_lists.specs.ListLaws.{stand_first, counted_more, place_more, carries_more, carries_pushed, register_carries, register_kept, fit_two, fit_choice, may_link}
-use Rattle.net_lists.specs.Runs.{bit_at, carried, IsNetRun, IsNetCycle}
+use Rattle.net_lists.specs.Runs.{carried, IsNetRun, IsNetCycle}
 use Rattle.net_lists.specs.RunLemmas.{register_word, run_cycles, run_of, computed_word, word_in, bit_word, and_bits, choose_bits}
 use Rattle.formula_nets.specs.Making.{formula_nets, formula_net, formula_size}
 use Rattle.formula_nets.specs.MadeLaws.{formulas_do_compute}

@@ -43,11 +43,7 @@ pub fn push_join_forward(netlist: &mut Netlist, join: JoinNets) -> Result<u32, N
 }
 
 /// Adds the ready nets of a join's inputs, first the left one's, and tells the number of the first one.
-pub fn push_join_ready(
-    netlist: &mut Netlist,
-    join: JoinNets,
-    ready: u32,
-) -> Result<u32, NetRefused>
+pub fn push_join_ready(netlist: &mut Netlist, join: JoinNets, ready: u32) -> Result<u32, NetRefused>
     requires ready { Carries netlist.old ready 1 }
     requires left { Carries netlist.old join.left_valid 1 }
     requires right { Carries netlist.old join.right_valid 1 }

@@ -38,11 +38,7 @@ pub fn push_scan_register(netlist: &mut Netlist, reset: Word) -> Result<u32, Net
 
 /// Adds the nets of what a scan's state is next, sets its next net, and tells the number of the first one. `reset` is the
 /// state at the start.
-pub fn push_scan_next(
-    netlist: &mut Netlist,
-    scan: ScanNets,
-    reset: Word,
-) -> Result<u32, NetRefused>
+pub fn push_scan_next(netlist: &mut Netlist, scan: ScanNets, reset: Word) -> Result<u32, NetRefused>
     requires { IsScanReady netlist.old scan reset }
     ensures pushed { let at = length netlist.old.nets in OnOk result (netlist.new ≡ scan_linked (with_nets netlist.old (scan_next scan at)) scan.register at) }
     ensures number { IfOk result (λ net. net ≡ length netlist.old.nets) }

@@ -1,7 +1,7 @@
 -- The nets of a formula fit behind what stands, and the last one is as wide as the formula.
-use Rattle.std.specs.Prelude.{◌≡◌, ℕ, zero, suc, ◌+◌, ◌-◌, ◌<◌, ◌≤◌, Bool, true, List, [], ◌∷◌, ◌++◌, Option, Some, None, length, map, slice_get, IsSome, refl}
+use Rattle.std.specs.Prelude.{◌≡◌, ℕ, ◌+◌, ◌-◌, ◌<◌, ◌≤◌, List, [], ◌∷◌, ◌++◌, Option, Some, None, length, map, slice_get, IsSome, refl}
 use Rattle.std.specs.List.{slice_index_or}
-use Rattle.std.proofs.Common.{sym, ◌∙◌, ap, subst, arith, length-append, append_assoc}
+use Rattle.std.proofs.Common.{sym, ◌∙◌, ap, subst, arith, length-append}
 use Rattle.std.proofs.lemmas.Option.{same_Some, slice_get_within, get_or_from_slice_get}
 use Rattle.std.proofs.lemmas.List.{length-map, get_or-map}
 use Rattle.netlist.specs.declared.limits.TheConstants.{MAX_WIDTH, MAX_NUMBER_WIDTH}
@@ -14,7 +14,7 @@ use Rattle.netlist.specs.declared.formula.Formula.TheOpen.{Formula-F}
 use Rattle.netlist.specs.declared.formula.Formula.TheViews.{roll-Formula}
 use Rattle.netlist.specs.declared.formula.Formula.TheFolds as folds
 use Rattle.netlist.specs.Nets.{Bits, width_at, width_in, Fits}
-use Rattle.netlist.specs.Plans.{Plan, IsPlan, with_net}
+use Rattle.netlist.specs.Plans.{Plan, IsPlan}
 use Rattle.netlist.specs.Formulas.{size_join, size_step, size}
 use Rattle.netlist.specs.FormulaLaws.{both_sizes, number_size, bit_size, choose_size, slice_size, concat_size}
 use Rattle.net_lists.specs.Lists.{with_nets, FitAll, Carries}

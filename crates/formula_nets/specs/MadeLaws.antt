@@ -1,12 +1,11 @@
 -- The nets of a formula carry what it is worth; they fit behind what stands, and the last one is as wide as the formula.
-use Rattle.std.specs.Prelude.{◌≡◌, ℕ, zero, suc, ◌+◌, ◌-◌, ◌<◌, ◌≤◌, ◌==◌, ◌^◌, ◌&&◌, ◌||◌, if◌then◌else◌, nat_lt, not, Bool, true, List, [], ◌∷◌, ◌++◌, Option, Some, None, length, map, slice_get, slice_range, refl}
+use Rattle.std.specs.Prelude.{◌≡◌, ℕ, ◌+◌, ◌-◌, ◌<◌, ◌==◌, ◌^◌, ◌&&◌, ◌||◌, if◌then◌else◌, nat_lt, not, true, List, [], ◌∷◌, ◌++◌, Option, Some, None, length, map, slice_get, slice_range, refl}
 use Rattle.std.specs.Bool.{xor}
 use Rattle.std.specs.List.{slice_index_or}
 use Rattle.std.proofs.Common.{sym, ◌∙◌, ap, subst, arith, length-append, append_assoc}
 use Rattle.std.proofs.lemmas.List.{get_or-map, length-map}
-use Rattle.std.proofs.lemmas.Option.{slice_get_within, same_Some}
+use Rattle.std.proofs.lemmas.Option.{slice_get_within}
 use Rattle.esi_base.specs.Bits.{number_of, bits_of, zip_bits, same_bits}
-use Rattle.netlist.specs.declared.limits.TheConstants.{MAX_WIDTH, MAX_NUMBER_WIDTH}
 use Rattle.netlist.specs.declared.net.Net.{Net}
 use Rattle.netlist.specs.declared.net.Net.TheVariants.{Input, Register, Const, Not, And, Or, Xor, Add, Sub, Equal, Less, Choose, Slice, Concat}
 use Rattle.netlist.specs.declared.formula.Half.{Half}
@@ -16,13 +15,13 @@ use Rattle.netlist.specs.declared.formula.Formula.TheOpen.{Formula-F}
 use Rattle.netlist.specs.declared.formula.Formula.TheViews.{roll-Formula}
 use Rattle.netlist.specs.declared.formula.Formula.TheFolds as folds
 use Rattle.netlist.specs.Nets.{Bits, word_at, width_at, is_computed, result_of}
-use Rattle.netlist.specs.Plans.{Plan, Stands, with_net}
+use Rattle.netlist.specs.Plans.{Plan, Stands}
 use Rattle.netlist.specs.Settled.{IsSettled, operands}
 use Rattle.netlist.specs.Formulas.{worth_step, worth, size_bit, size_join, size_step, size, first_highest, first_lowest, joined}
-use Rattle.netlist.specs.FormulaLaws.{both_sizes, number_size, bit_size, choose_size, slice_size, concat_size}
+use Rattle.netlist.specs.FormulaLaws.{both_sizes, number_size, choose_size, slice_size, concat_size}
 use Rattle.net_lists.specs.Lists.{StandFrom}
 use Rattle.net_lists.specs.ListLaws.{stand_first, stand_front, stand_behind}
-use Rattle.formula_nets.specs.Making.{Made, Making, standing, lone, of_one, of_two, of_three, join_net, joined_to, of_parts, of_halves, making_step, making, formula_nets, formula_net, FormulasCompute}
+use Rattle.formula_nets.specs.Making.{Making, standing, lone, of_one, of_two, of_three, joined_to, of_parts, making_step, making, FormulasCompute}
 
 append_none : {A : Type 0} (xs : List A) → xs ≡ xs ++ []
 append_none [] = refl

@@ -1,5 +1,5 @@
 -- Listed nets are the nets of the formula, where there is room for all of them; else the listing is refused.
-use Rattle.std.specs.Prelude.{◌≡◌, ℕ, ◌+◌, ◌<◌, ◌≤◌, List, [], ◌∷◌, ◌++◌, Option, Some, None, Result, Ok, Err, length, map, nat_lt, if◌then◌else◌, true, false, refl}
+use Rattle.std.specs.Prelude.{◌≡◌, ℕ, ◌+◌, ◌<◌, ◌≤◌, List, [], ◌∷◌, ◌++◌, Some, None, Ok, Err, length, map, nat_lt, true, false, refl}
 use Rattle.std.specs.List.{slice_index_or}
 use Rattle.std.proofs.Common.{sym, ◌∙◌, ap, subst, arith, inl, inr, length-append, append_assoc}
 use Rattle.std.proofs.lemmas.Bool.{cases_lt, cond-true, cond-false}
@@ -15,7 +15,7 @@ use Rattle.netlist.specs.declared.formula.Formula.{Formula}
 use Rattle.netlist.specs.declared.formula.Formula.TheOpen.{Formula-F}
 use Rattle.netlist.specs.declared.formula.Formula.TheViews.{roll-Formula}
 use Rattle.netlist.specs.declared.formula.Formula.TheFolds as folds
-use Rattle.formula_nets.specs.Making.{Made, Making, standing, lone, of_one, of_two, of_three, join_net, joined_to, of_parts, of_halves, making_step, making}
+use Rattle.formula_nets.specs.Making.{Made, Making, standing, lone, of_one, of_two, of_three, join_net, joined_to, of_parts, making_step, making}
 use Rattle.formula_nets.specs.Posting.{Listed, Listing, added, join_all, list_one, list_two, list_three, listing_step, listing}
 
 -- what a list of nets becomes, where there is room for what is made, and where there is not

@@ -1,9 +1,8 @@
 -- Laws of lists of nets.
-use Rattle.std.specs.Prelude.{◌≡◌, ℕ, zero, suc, ◌+◌, ◌-◌, ◌<◌, ◌≤◌, ◌++◌, ◌∷◌, [], Bool, true, List, Some, length, take, drop, slice_get, Result, Ok, Err, IsErrOf, OnOk, refl}
-use Rattle.std.proofs.Common.{sym, ◌∙◌, ap, subst, arith, inl, inr, length-append, append_assoc, get_or}
+use Rattle.std.specs.Prelude.{◌≡◌, ℕ, ◌+◌, ◌<◌, ◌≤◌, ◌++◌, ◌∷◌, [], Bool, true, List, Some, length, take, drop, slice_get, Result, Ok, Err, IsErrOf, OnOk, refl}
+use Rattle.std.proofs.Common.{sym, ◌∙◌, ap, subst, arith, length-append, append_assoc, get_or}
 use Rattle.std.proofs.lemmas.List.{length_push, take_more, drop_more, get_or_append_left, get_or-append-add, get_or_push, length-take}
 use Rattle.std.proofs.lemmas.Option.{slice_get-get_or, slice_get_within, get_or_from_slice_get}
-use Rattle.std.proofs.lemmas.List.{take-append-drop}
 use Rattle.netlist.specs.declared.limits.TheConstants.{MAX_NETS}
 use Rattle.netlist.specs.declared.net.Net.{Net}
 use Rattle.netlist.specs.declared.netlist.NetRefused.{NetRefused}

@@ -1,17 +1,16 @@
 -- Laws of runs: widths, the words of registers from cycle to cycle, and the words of nets that stand in a list.
-use Rattle.std.specs.Prelude.{◌≡◌, ℕ, zero, suc, ◌+◌, ◌<◌, ◌==◌, ◌&&◌, ◌||◌, not, if◌then◌else◌, Bool, true, false, List, [], ◌∷◌, Option, Some, None, length, map, slice_get, IsSome, refl}
+use Rattle.std.specs.Prelude.{◌≡◌, ℕ, ◌+◌, ◌<◌, ◌==◌, ◌&&◌, ◌||◌, not, if◌then◌else◌, Bool, true, false, List, [], ◌∷◌, Option, Some, None, length, map, slice_get, IsSome, refl}
 use Rattle.std.specs.List.{AllByRecursion}
-use Rattle.std.proofs.Common.{sym, ◌∙◌, ap, subst, arith, inl, inr, get_or}
+use Rattle.std.proofs.Common.{sym, ◌∙◌, ap, arith, inl, inr, get_or}
 use Rattle.std.proofs.lemmas.Bool.{cases_lt}
 use Rattle.std.proofs.lemmas.List.{get_or-map, get_or_past}
-use Rattle.std.proofs.lemmas.Option.{slice_get_within, same_Some}
 use Rattle.esi_base.specs.Bits.{number_of, zip_bits}
 use Rattle.netlist.specs.declared.net.Net.{Net}
 use Rattle.netlist.specs.declared.net.Net.TheVariants.{Input, Register, Not}
-use Rattle.netlist.specs.Nets.{Bits, word_at, width_at, is_computed, is_register, width_in, result_of}
-use Rattle.netlist.specs.Plans.{Plan, Stands, net_at, next_of, is_register_at, IsPlan, IsComplete}
+use Rattle.netlist.specs.Nets.{Bits, word_at, width_at, is_computed, is_register, result_of}
+use Rattle.netlist.specs.Plans.{Plan, Stands, next_of, IsPlan, IsComplete}
 use Rattle.netlist.specs.PlanLaws.{net_at-stands, stands_within}
-use Rattle.netlist.specs.Settled.{IsSettled, equation, operands, AreHeld, AreInputs, HaveWidths}
+use Rattle.netlist.specs.Settled.{operands, AreHeld, AreInputs, HaveWidths}
 use Rattle.netlist.specs.SettledLaws.{settled_widths, widths_at}
 use Rattle.netlist.specs.Runs.{reset_of, taken_from, registers_after, IsHistory}
 use Rattle.element_laws.specs.Histories.{reached, IsRun}

@@ -1,11 +1,11 @@
 -- What nets carry over a run: the bits of nets of one bit, the channels between nets, and the words of registers.
-use Rattle.std.specs.Prelude.{◌≡◌, ℕ, Bool, false, List, [], ◌∷◌, slice_get}
+use Rattle.std.specs.Prelude.{ℕ, Bool, false, List, [], ◌∷◌, slice_get}
 use Rattle.std.specs.List.{AllByRecursion}
 use Rattle.netlist.specs.Nets.{Bits, word_at}
 use Rattle.netlist.specs.Plans.{Plan, IsComplete}
 use Rattle.netlist.specs.Settled.{IsSettled, AreInputs, HaveWidths}
 use Rattle.netlist.specs.Runs.{registers_after, IsHistory}
-use Rattle.element_laws.specs.Signals.{Signals, fifo_signals}
+use Rattle.element_laws.specs.Signals.{fifo_signals}
 use Rattle.element_laws.specs.Histories.{Channel}
 
 -- the bit of a word of one bit

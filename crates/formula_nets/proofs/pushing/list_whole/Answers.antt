@@ -1,6 +1,6 @@
-use Rattle.std.proofs.Common.{◌≡◌, List, Ok, Err, subst}
+use Rattle.std.proofs.Common.{◌≡◌, List, Ok, subst}
 use Rattle.netlist.specs.declared.net.Net.{Net}
-use Rattle.formula_nets.specs.Posting.{listing, Lists}
+use Rattle.formula_nets.specs.Posting.{listing}
 use Rattle.formula_nets.specs.PostedLaws.{listed_is, refused_is}
 use Rattle.formula_nets.proofs.pushing.list_whole.Goals as goal
 
