@@ -1,0 +1,5 @@
+pub mod Lists
+pub mod ListLaws
+pub mod Runs
+pub mod RunLemmas
+pub mod Passing
