@@ -71,6 +71,21 @@ impl Values {
         }
     }
 
+    /// Puts the word of a width that stands at a place of other words, where there is a word as wide.
+    pub fn put_from(&mut self, place: usize, others: &Values, at: usize, width: u32)
+        requires within { place < length self.old }
+        requires at { at < length others.now }
+        requires width { length (word_at others.now at) ≡ width }
+        requires same { length (word_at self.old place) ≡ width }
+        ensures { self.new ≡ slice_set self.old place (word_at others.now at) }
+    {
+        if width <= MAX_NUMBER_WIDTH {
+            self.put_number(place, others.number(at));
+        } else {
+            self.put(place, others.word(at));
+        }
+    }
+
     /// Puts a number at a place, where there is a word of at most 64 bits, which the number fits.
     pub fn put_number(&mut self, place: usize, number: u64)
         requires within { place < length self.old }
