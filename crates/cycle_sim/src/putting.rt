@@ -11,12 +11,31 @@ ghost use Rattle.cycle_sim.specs.Turns.{HasState};
 
 use crate::marks::Marks;
 use crate::parts::{State, Wiring};
+use crate::values::word_number;
 use esi_base::Word;
-use netlist::Net;
+use netlist::{MAX_NUMBER_WIDTH, Net};
 
 /// Puts a word of its width at a net. Where it is another one than before, the net's users are marked, and
 /// the registers among them wait.
 pub(crate) fn put(wiring: &Wiring, state: &mut State, net: usize, word: Word)
+    requires wired { IsWired wiring.now.net wiring.now.users wiring.now.inputs }
+    requires state { HasState wiring.now.net state.old.values state.old.marks state.old.waiting }
+    requires within { net < length wiring.now.net.nets }
+    requires width { length word ≡ width_at wiring.now.net.widths net }
+    ensures values { state.new.values ≡ slice_set state.old.values net word }
+    ensures marks { state.new.marks ≡ marks_put (is_other_at wiring.now.net.nets) (users_at wiring.now.users net) (word_at state.old.values net) word state.old.marks }
+    ensures waiting { state.new.waiting ≡ marks_put (is_register_at wiring.now.net.nets) (users_at wiring.now.users net) (word_at state.old.values net) word state.old.waiting }
+    ensures kept { HasState wiring.now.net state.new.values state.new.marks state.new.waiting }
+{
+    if word.width() <= MAX_NUMBER_WIDTH {
+        put_number(wiring, state, net, word_number(&word));
+    } else {
+        put_wide(wiring, state, net, word);
+    }
+}
+
+/// The same for any word, which is compared as a word.
+fn put_wide(wiring: &Wiring, state: &mut State, net: usize, word: Word)
     requires wired { IsWired wiring.now.net wiring.now.users wiring.now.inputs }
     requires state { HasState wiring.now.net state.old.values state.old.marks state.old.waiting }
     requires within { net < length wiring.now.net.nets }

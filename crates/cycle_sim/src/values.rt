@@ -152,7 +152,7 @@ fn number_to_store(word: &Word) -> u64
 }
 
 /// The number that a word of at most 64 bits is.
-fn word_number(word: &Word) -> u64
+pub(crate) fn word_number(word: &Word) -> u64
     requires { length word.now ≤ 64 }
     ensures { result ≡ number_of word.now }
 {
