@@ -4,10 +4,12 @@ pub mod Clocks
 pub mod CycleLaws
 pub mod Examples
 pub mod Marks
+pub mod Narrow
 pub mod Offers
 pub mod Users
 pub mod Wired
 pub mod Passes
 pub mod Simulated
+pub mod Stored
 pub mod Starts
 pub mod Turns

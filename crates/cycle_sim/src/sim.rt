@@ -48,7 +48,7 @@ impl Sim {
     {
         let wiring = wiring_of(alloc, net)?;
         let state = first_state(alloc, &wiring.net)?;
-        let held = Values::new(words_at_rest(alloc, &wiring.net)?);
+        let held = Values::new(alloc, words_at_rest(alloc, &wiring.net)?)?;
         let due = Marks::new(no_flags(alloc, wiring.net.nets().as_slice())?);
         Ok(Sim {
             wiring,
@@ -122,7 +122,7 @@ fn first_state(alloc: Global, net: &Sealed) -> Result<State, NoMemory>
     ensures marks { IfOk result (λ state. state.marks ≡ map is_computed net.now.nets) }
     ensures waiting { IfOk result (λ state. state.waiting ≡ map is_register net.now.nets) }
 {
-    let values = Values::new(words_at_rest(alloc, net)?);
+    let values = Values::new(alloc, words_at_rest(alloc, net)?)?;
     let nets = net.nets().as_slice();
     let marks = Marks::new(computed_flags(alloc, nets)?);
     let waiting = Marks::new(register_flags(alloc, nets)?);

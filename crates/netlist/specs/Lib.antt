@@ -1,4 +1,6 @@
 pub mod InputPlaces
+pub mod Narrow
+pub mod NarrowLaws
 pub mod Nets
 pub mod Formulas
 pub mod FormulaEquations

@@ -7,6 +7,7 @@ mod evaluation;
 pub mod formula;
 mod laws;
 mod limits;
+mod narrow;
 mod net;
 mod netlist;
 pub mod part;

@@ -1,12 +1,15 @@
 //! A netlist that is being built.
-ghost use Rattle.std.specs.Prelude.{◌≡◌, ◌↔◌, ◌<◌, ◌&&◌, [], All, length, map, is_none, IfOk, OnOk, OnErr, IsErrOf, IsTrue};
+ghost use Rattle.std.specs.Prelude.{◌≡◌, ◌↔◌, ◌<◌, ◌≤◌, ◌&&◌, [], List, All, length, map, is_none, IfOk, OnOk, OnErr, IsErrOf, IsTrue};
 ghost use Rattle.std.specs.List.{AllByRecursion};
-ghost use Rattle.netlist.specs.Nets.{Fits, width_at, width_in, is_register, is_computed, sources, result_of};
+ghost use Rattle.esi_base.specs.Bits.{number_of};
+ghost use Rattle.netlist.specs.Narrow.{IsNarrow, AreNumbers};
+ghost use Rattle.netlist.specs.Nets.{Bits, Fits, width_at, width_in, is_register, is_computed, sources, result_of};
 ghost use Rattle.netlist.specs.Sources.{listed};
 ghost use Rattle.netlist.specs.Plans.{empty_plan, with_net, with_next, net_at, next_of, IsPlan, IsNextOf, HasAllNexts, IsWidth};
 
 use crate::evaluation::evaluated;
-use crate::limits::MAX_NETS;
+use crate::limits::{MAX_NETS, MAX_NUMBER_WIDTH};
+use crate::narrow::number;
 use crate::net::{Net, Sources};
 use crate::sealed::Sealed;
 use esi_base::{List, Word};
@@ -179,6 +182,29 @@ impl Netlist {
         evaluated(&nets[id as usize], words)
     }
 
+    /// Whether a net and those that it reads are at most `MAX_NUMBER_WIDTH` bits wide.
+    pub(crate) fn is_narrow(&self, id: u32) -> bool
+        requires { id < length self.now.nets }
+        ensures { IsTrue result ↔ IsNarrow self.now id }
+    {
+        let nets = self.nets.as_slice();
+        let widths = self.widths.as_slice();
+        are_narrow(&nets[id as usize], widths[id as usize], widths)
+    }
+
+    /// The number of the word of a net that is neither an input nor a register, given the numbers of its
+    /// sources' words in the order of its fields.
+    pub(crate) fn number(&self, id: u32, a: u64, b: u64, c: u64) -> u64
+        requires within { id < length self.now.nets }
+        requires computed { IsTrue (is_computed (net_at self.now.nets id)) }
+        requires narrow { IsNarrow self.now id }
+        ensures { (words : List Bits) → map length words ≡ map (width_at self.now.widths) (sources (net_at self.now.nets id)) → AreNumbers words a b c
+            → result ≡ number_of (result_of (net_at self.now.nets id) words) }
+    {
+        let nets = self.nets.as_slice();
+        number(&nets[id as usize], self.widths.as_slice(), a, b, c)
+    }
+
     /// A netlist of the same nets, widths and next nets.
     pub(crate) fn copy(&self, alloc: Global) -> Result<Netlist, AllocError>
         ensures { IfOk result (λ copy. copy ≡ self.now) }
@@ -216,6 +242,33 @@ fn width_of(net: &Net, widths: &[u32]) -> u32
         Net::Choose(_, yes, _) => widths[*yes as usize],
         Net::Slice { of: _, high, low } => *high - *low + 1,
         Net::Concat { high, low } => widths[*high as usize] + widths[*low as usize],
+    }
+}
+
+/// Whether a net of a width and those that it reads are at most `MAX_NUMBER_WIDTH` bits wide.
+fn are_narrow(net: &Net, width: u32, widths: &[u32]) -> bool
+    requires { AllByRecursion (λ source. source < length widths.now) (sources net.now) }
+    ensures { IsTrue result ↔ ((width ≤ MAX_NUMBER_WIDTH) × AllByRecursion (λ source. width_at widths.now source ≤ MAX_NUMBER_WIDTH) (sources net.now)) }
+{
+    width <= MAX_NUMBER_WIDTH && reads_narrow(net, widths)
+}
+
+/// Whether the nets that a net reads are at most `MAX_NUMBER_WIDTH` bits wide.
+fn reads_narrow(net: &Net, widths: &[u32]) -> bool
+    requires { AllByRecursion (λ source. source < length widths.now) (sources net.now) }
+    ensures { IsTrue result ↔ AllByRecursion (λ source. width_at widths.now source ≤ MAX_NUMBER_WIDTH) (sources net.now) }
+{
+    match net.sources() {
+        Sources::None => true,
+        Sources::One(a) => widths[a as usize] <= MAX_NUMBER_WIDTH,
+        Sources::Two(a, b) => {
+            widths[a as usize] <= MAX_NUMBER_WIDTH && widths[b as usize] <= MAX_NUMBER_WIDTH
+        }
+        Sources::Three(a, b, c) => {
+            widths[a as usize] <= MAX_NUMBER_WIDTH
+                && widths[b as usize] <= MAX_NUMBER_WIDTH
+                && widths[c as usize] <= MAX_NUMBER_WIDTH
+        }
     }
 }
 

@@ -1,7 +1,9 @@
 //! A netlist that is complete and changes no more.
-ghost use Rattle.std.specs.Prelude.{◌≡◌, ◌+◌, ◌<◌, Some, length, map, IfOk, IsTrue};
+ghost use Rattle.std.specs.Prelude.{◌≡◌, ◌↔◌, ◌+◌, ◌<◌, List, Some, length, map, IfOk, IsTrue};
 ghost use Rattle.std.specs.List.{AllByRecursion};
-ghost use Rattle.netlist.specs.Nets.{is_computed, sources, width_at, result_of};
+ghost use Rattle.esi_base.specs.Bits.{number_of};
+ghost use Rattle.netlist.specs.Narrow.{IsNarrow, AreNumbers};
+ghost use Rattle.netlist.specs.Nets.{Bits, is_computed, sources, width_at, result_of};
 ghost use Rattle.netlist.specs.Sources.{listed};
 ghost use Rattle.netlist.specs.Plans.{net_at, is_register_at, next_of, HasAllNexts, IsComplete, IsWidth};
 
@@ -105,5 +107,36 @@ impl Sealed {
     {
         steps.tick();
         self.netlist.evaluated(id, words)
+    }
+
+    /// Whether a net and those that it reads are at most `MAX_NUMBER_WIDTH` bits wide, so that the words of
+    /// all of them are numbers of 64 bits.
+    pub fn is_narrow(&self, id: u32) -> bool
+        requires { id < length self.now.nets }
+        ensures { IsTrue result ↔ IsNarrow self.now id }
+    {
+        self.netlist.is_narrow(id)
+    }
+
+    /// What `evaluate` gives, where the net is narrow, as a number: from the numbers of its sources' words
+    /// in the order of its fields to the number of its word. Where it reads fewer than three nets, the
+    /// further numbers mean nothing. It is one step, and takes no memory.
+    pub fn evaluate_narrow<L: Ledger>(
+        &self,
+        id: u32,
+        first: u64,
+        second: u64,
+        third: u64,
+        steps: &mut Steps<L>,
+    ) -> u64
+        requires computed { IsTrue (is_computed (net_at self.now.nets id)) }
+        requires within { id < length self.now.nets }
+        requires narrow { IsNarrow self.now id }
+        ensures word { (words : List Bits) → map length words ≡ map (width_at self.now.widths) (sources (net_at self.now.nets id)) → AreNumbers words first second third
+            → result ≡ number_of (result_of (net_at self.now.nets id) words) }
+        ensures step { steps.new ≡ steps.old + 1 }
+    {
+        steps.tick();
+        self.netlist.number(id, first, second, third)
     }
 }

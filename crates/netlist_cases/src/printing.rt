@@ -26,7 +26,7 @@ pub fn add_words(
 }
 
 /// Adds a word in hexadecimal digits, as many as its bits need.
-fn add_word(text: &mut String, word: &Word) -> Result<(), AllocError> {
+pub fn add_word(text: &mut String, word: &Word) -> Result<(), AllocError> {
     let width = word.width();
     let mut at = width.div_ceil(8);
     if width % 8 != 0 && width % 8 <= 4 {

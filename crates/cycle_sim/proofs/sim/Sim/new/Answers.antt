@@ -15,6 +15,6 @@ invariant_of-result c =
       wired = wired;
       state = start_state plan state.values state.marks state.waiting h first.rest first.marks first.waiting;
       ready = start_ready plan state.values state.marks state.waiting h first.rest first.marks first.waiting;
-      room = start_room plan c.new-held.result c.new-due.result h (subst (AreAtRest plan) (sym c.new-held.ensures) c.in_ok-words_at_rest.ensures)
+      room = start_room plan c.in_ok-held.held c.new-due.result h (subst (AreAtRest plan) (sym c.in_ok-held.ensures) c.in_ok-words_at_rest.ensures)
           (c.new-due.ensures ∙ c.in_ok-no_flags.ensures ∙ ap (map (λ net. false)) (c.as_slice.ensures ∙ c.nets.ensures.nets));
     }
