@@ -14,8 +14,8 @@ use Rattle.net_lists.specs.Lists.{StandFrom}
 use Rattle.net_lists.specs.ListLaws.{stand_first}
 use Rattle.net_lists.specs.Runs.{bit_of, bit_at, IsNetCycle}
 use Rattle.net_lists.specs.RunLemmas.{register_word, run_cycles, run_of, computed_word, word_in, bit_word, and_bits, or_bits, not_bits}
-use Rattle.fork_nets.specs.Loops.{nets_upto, turn_stands, firsts_same, firsts_at, firsts_one}
-use Rattle.fork_nets.specs.Forks.{ForkNets, branches, branch_nets, wait_nets, chain, chain_nets, fork_ready, taken_nets, flag_place, flag_nets, HasFork, with_flags, fork_input, fork_output, ForksObey}
+use Rattle.looped_nets.specs.Loops.{nets_upto, turn_stands, firsts_same, firsts_at, firsts_one}
+use Rattle.looped_nets.specs.Forks.{ForkNets, branches, branch_nets, wait_nets, chain, chain_nets, fork_ready, taken_nets, flag_place, flag_nets, HasFork, with_flags, fork_input, fork_output, ForksObey}
 
 module _ (plan : Plan) (kept : IsPlan plan) (s : ForkNets) (has : HasFork plan s) where
   register_stands : (i : ℕ) → i < branches s → Stands plan.nets (s.registers + i) (Register (false ∷ []))

@@ -11,7 +11,7 @@ use Rattle.element_laws.specs.Laws.{Obeys}
 use Rattle.element_wires.specs.Wires.{firsts}
 use Rattle.net_lists.specs.Lists.{StandFrom, Carries}
 use Rattle.net_lists.specs.Runs.{bit_at, carried, IsNetRun}
-use Rattle.fork_nets.specs.Loops.{nets_upto}
+use Rattle.looped_nets.specs.Loops.{nets_upto}
 
 -- Between which nets a fork of `more` + 2 branches stands, and where its nets do: the valid and the word of its input, the ready of each
 -- branch, its first register, and the first one of its forward, backward and next nets.

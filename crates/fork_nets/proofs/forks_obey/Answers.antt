@@ -1,5 +1,0 @@
-use Rattle.fork_nets.specs.ForkLemmas.{forks_do_obey}
-use Rattle.fork_nets.proofs.forks_obey.Goals as goal
-
-pub returns : goal.returns
-returns c = forks_do_obey
