@@ -1,5 +1,5 @@
 -- Totals that are as great as is needed to tell whether they exceed their limits, as the walk over the bodies makes them.
-use Rattle.std.specs.Prelude.{ℕ, ◌+◌, ◌-◌, min, Option, unwrap_or, List, [], ◌∷◌, ◌++◌, map, length, slice_get}
+use Rattle.std.specs.Prelude.{◌+◌, ◌-◌, min, Option, unwrap_or, List, [], ◌∷◌, ◌++◌, map, length, slice_get}
 use Rattle.design_tree.specs.declared.leaves.Name.{Name}
 use Rattle.design_tree.specs.declared.statements.Statement.{Statement}
 use Rattle.design_tree.specs.declared.statements.Statement.TheVariants as S

@@ -30,7 +30,6 @@ pub fn last_totals<'a>(
 }
 
 /// What each of some bodies has.
-#[tactic(auto, using(crate::proofs::CappedLaws::bodies_next, crate::proofs::CappedLaws::bodies_end))]
 fn totals_of_each<'a>(
     alloc: Global,
     declared: &Declared<'a>,

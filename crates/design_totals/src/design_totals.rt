@@ -44,6 +44,7 @@ impl<'a> Model for DesignTotals<'a> {
 impl<'a> DesignTotals<'a> {
     /// The totals of a design, whose declarations are found by name in `declared`, and whose bodies are
     /// these. It takes time in n log n.
+    #[tactic(auto, using(crate::proofs::DesignLaws::top_law))]
     pub fn of(
         alloc: Global,
         declarations: &'a [Declaration],

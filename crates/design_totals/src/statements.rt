@@ -14,7 +14,6 @@ use design_tree::{Member, Name, Operation, Statement};
 use name_tables::NameTable;
 
 /// What a body has, where the totals of the modules before it are known.
-#[tactic(auto, using(crate::proofs::CappedLaws::joined_next))]
 pub fn body_totals<'a>(
     declared: &Declared<'a>,
     modules: &NameTable<'a>,
@@ -83,7 +82,6 @@ fn bundle_totals(bundle: Option<&BundleNames<'_>>) -> CappedTotals
 }
 
 /// What some members have.
-#[tactic(auto, using(crate::proofs::CappedLaws::joined_next))]
 fn members_totals(members: &[Member]) -> CappedTotals
     ensures { result ≡ members_capped members.now }
 {
