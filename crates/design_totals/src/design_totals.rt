@@ -43,7 +43,7 @@ impl<'a> Model for DesignTotals<'a> {
 
 impl<'a> DesignTotals<'a> {
     /// The totals of a design, whose declarations are found by name in `declared`, and whose bodies are
-    /// these. It takes time in n log n.
+    /// these. It takes time in n log n where each member of a request is used (rule 304).
     #[tactic(auto, using(crate::proofs::DesignLaws::top_law))]
     pub fn of(
         alloc: Global,
