@@ -1,0 +1,5 @@
+pub mod DeclaredTypes
+pub mod Joins
+pub mod Rules
+pub mod Typing
+pub mod Misfits
