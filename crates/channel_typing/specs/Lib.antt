@@ -3,3 +3,7 @@ pub mod Joins
 pub mod Rules
 pub mod Typing
 pub mod Misfits
+pub mod Walk
+pub mod Views
+pub mod Slots
+pub mod Exact

@@ -1,24 +1,22 @@
 -- What does not fit in a body, and what its elements are: along its element order, with the types known so far, and after
 -- that its drives.
-use Rattle.std.specs.Prelude.{ℕ, Option, Some, None, Result, Ok, Err, List, [], ◌∷◌, ◌++◌, flat_map, filter, length, replicate, set, slice_get}
-use Rattle.std.specs.Option.{option_to_list}
+use Rattle.std.specs.Prelude.{ℕ, Option, Some, None, List, [], ◌∷◌, ◌++◌, flat_map, length, replicate, set, slice_get}
 use Rattle.channel_types.specs.declared.esi_type.EsiType.{EsiType}
 use Rattle.design_tree.specs.declared.leaves.Reference.{Reference}
 use Rattle.design_tree.specs.declared.statements.Statement.{Statement}
 use Rattle.element_order.specs.Orders.{ordered}
 use Rattle.check_rules.specs.Scopes.{Scope}
 use Rattle.check_rules.specs.Dependencies.{elements_of}
-use Rattle.check_rules.specs.Signalling.{is_drive}
 use Rattle.body_order.specs.Makers.{first_needs}
 use Rattle.channel_typing.specs.declared.typed_element.TypedElement.{TypedElement}
-use Rattle.channel_typing.specs.Typing.{Known, Made, unknown, type_at, statement_misfits, statement_made}
+use Rattle.channel_typing.specs.Typing.{Known, Made, unknown, type_at, element_misfits, drive_misfit, statement_made}
 
 -- ---- along an order of elements
 
 -- the element of a number
 abbrev pub misfits_of : Scope → List Statement → Known → Option Statement → List ℕ
 misfits_of scope elements known None = []
-misfits_of scope elements known (Some s) = statement_misfits scope (type_at scope elements known) s
+misfits_of scope elements known (Some s) = element_misfits scope (type_at scope elements known) s
 
 abbrev pub made_by : Scope → List Statement → Known → Option Statement → Made
 made_by scope elements known None = unknown
@@ -57,13 +55,14 @@ known_in scope elements order = known_after scope elements (nothing_known elemen
 abbrev pub type_in_body : Scope → List Statement → List ℕ → Reference → Option EsiType
 type_in_body scope elements order = type_at scope elements (known_in scope elements order)
 
-abbrev pub drive_misfits : Scope → (Reference → Option EsiType) → List Statement → List ℕ
-drive_misfits scope of statements = flat_map (statement_misfits scope of) (filter is_drive statements)
+-- what does not fit of the drives among some statements
+abbrev pub drive_misfits : (Reference → Option EsiType) → List Statement → List ℕ
+drive_misfits of = flat_map (drive_misfit of)
 
 -- All places of a body that do not fit, over its elements in an order, then over its drives in the order of the text.
 abbrev pub body_misfits : Scope → List Statement → List ℕ → List ℕ
 body_misfits scope elements order =
-    misfits_along scope elements (nothing_known elements) order ++ drive_misfits scope (type_in_body scope elements order) scope.statements
+    misfits_along scope elements (nothing_known elements) order ++ drive_misfits (type_in_body scope elements order) scope.statements
 
 -- what its elements are, in the order
 abbrev pub elements_typed : Scope → List Statement → List ℕ → List TypedElement

@@ -51,35 +51,37 @@ pub data MakesType : Operation → List EsiType → EsiType → Type 0 where
 -- An operation whose sources have these types does not fit, at the place.
 pub data IsOperationMisfit : Operation → List EsiType → ℕ → Type 0 where
   -- the expression of a map has no type: at its innermost misfit
-  mapping : (source : Reference) (variable : Name) (body : Expression) (a : EsiType) (at : ℕ)
+  untyped_mapping : (source : Reference) (variable : Name) (body : Expression) (a : EsiType) (at : ℕ)
       → typed (map_variables variable a) body ≡ Err at → IsOperationMisfit (O.Map source variable body) (a ∷ []) at
   -- the state of a scan is neither of a bits type nor void, or its first number does not fit
-  state : (source : Reference) (state : Name) (ty : EsiType) (initial : Number) (variable : Name) (body : Expression) (a : EsiType)
+  misfitting_state : (source : Reference) (state : Name) (ty : EsiType) (initial : Number) (variable : Name) (body : Expression) (a : EsiType)
       → literal_word ty initial.value ≡ None
       → IsOperationMisfit (O.Scan source state ty initial variable body) (a ∷ []) (first_octet body)
   -- the expression of a scan has no type
-  scan : (source : Reference) (state : Name) (ty : EsiType) (initial : Number) (variable : Name) (body : Expression) (a : EsiType) (word : Bits) (at : ℕ)
+  untyped_scan : (source : Reference) (state : Name) (ty : EsiType) (initial : Number) (variable : Name) (body : Expression) (a : EsiType) (word : Bits) (at : ℕ)
       → literal_word ty initial.value ≡ Some word → typed (scan_variables state ty variable a) body ≡ Err at
       → IsOperationMisfit (O.Scan source state ty initial variable body) (a ∷ []) at
   -- it has another type than the state
-  result_type : (source : Reference) (state : Name) (ty : EsiType) (initial : Number) (variable : Name) (body : Expression) (a : EsiType) (word : Bits) (t : Typed)
+  other_result : (source : Reference) (state : Name) (ty : EsiType) (initial : Number) (variable : Name) (body : Expression) (a : EsiType) (word : Bits) (t : Typed)
       → literal_word ty initial.value ≡ Some word → typed (scan_variables state ty variable a) body ≡ Ok t → (t.ty ≡ ty → ⊥)
       → IsOperationMisfit (O.Scan source state ty initial variable body) (a ∷ []) (first_octet body)
   -- a join of too many bits, or of too many types inside one another
-  join : (left right : Reference) (a b : EsiType) → (IsJoinable a b → ⊥) → IsOperationMisfit (O.Join left right) (a ∷ b ∷ []) (reference_place left)
+  unjoinable : (left right : Reference) (a b : EsiType) → (IsJoinable a b → ⊥) → IsOperationMisfit (O.Join left right) (a ∷ b ∷ []) (reference_place left)
 
 -- ---- the channels of a body
 
 -- the references have these types, one for each
-pub data EachHas (Has : Reference → EsiType → Type 0) : List Reference → List EsiType → Type 0 where
-  none : EachHas Has [] []
-  more : (r : Reference) (ty : EsiType) (rs : List Reference) (tys : List EsiType) → Has r ty → EachHas Has rs tys → EachHas Has (r ∷ rs) (ty ∷ tys)
+abbrev pub EachHas : (Reference → EsiType → Type 0) → List Reference → List EsiType → Type 0
+EachHas Has [] [] = Unit {0}
+EachHas Has [] (ty ∷ tys) = ⊥
+EachHas Has (r ∷ rs) [] = ⊥
+EachHas Has (r ∷ rs) (ty ∷ tys) = Has r ty × EachHas Has rs tys
 
 -- The type of what a reference of a body is to: the one with which it is declared, or that of the channels that an operation
 -- makes whose sources have their types.
 pub data HasType (scope : Scope) : Reference → EsiType → Type 0 where
-  declared : (r : Reference) (ty : EsiType) → declared_type scope r ≡ Some ty → HasType scope r ty
-  made : (name : Name) (at : ℕ) (names : List Name) (operation : Operation) (types : List EsiType) (ty : EsiType)
+  of_declaration : (r : Reference) (ty : EsiType) → declared_type scope r ≡ Some ty → HasType scope r ty
+  of_operation : (name : Name) (at : ℕ) (names : List Name) (operation : Operation) (types : List EsiType) (ty : EsiType)
       → declared_type scope (R.Channel name) ≡ None
       → Contains scope.statements (S.Channels at names operation) → is_among name names ≡ true
       → length types ≡ length (operation_sources operation)
@@ -88,14 +90,14 @@ pub data HasType (scope : Scope) : Reference → EsiType → Type 0 where
 
 -- A statement of a body does not fit, at the place.
 pub data IsMisfit (scope : Scope) : Statement → ℕ → Type 0 where
-  operation : (at : ℕ) (names : List Name) (operation : Operation) (types : List EsiType) (place : ℕ)
+  misfitting : (at : ℕ) (names : List Name) (operation : Operation) (types : List EsiType) (place : ℕ)
       → EachHas (HasType scope) (operation_sources operation) types → IsOperationMisfit operation types place
       → IsMisfit scope (S.Channels at names operation) place
   -- a port of an instance is bound to what has another type: at that reference
-  binding : (at : ℕ) (id : ApplicationId) (body : Name) (bindings : List Binding) (bound : Binding) (asked ty : EsiType)
+  misbound : (at : ℕ) (id : ApplicationId) (body : Name) (bindings : List Binding) (bound : Binding) (asked ty : EsiType)
       → Contains bindings bound → port_type bound.port (find_module body scope.modules) ≡ Some asked → HasType scope bound.source ty → (ty ≡ asked → ⊥)
       → IsMisfit scope (S.Instance at id body bindings) (reference_place bound.source)
   -- what is driven has another type than what drives it: at the second reference
-  drive : (at : ℕ) (sink source : Reference) (asked ty : EsiType)
+  misdriven : (at : ℕ) (sink source : Reference) (asked ty : EsiType)
       → HasType scope sink asked → HasType scope source ty → (ty ≡ asked → ⊥)
       → IsMisfit scope (S.Drive at sink source) (reference_place source)

@@ -40,10 +40,14 @@ abbrev pub known_of : Known → Option ℕ → Option EsiType
 known_of known None = None
 known_of known (Some number) = get_or known number None
 
+-- the element that makes a channel
+abbrev pub channel_maker : List Statement → Reference → Option ℕ
+channel_maker elements (R.Channel name) = maker elements (R.Channel name)
+channel_maker elements (R.Member id name) = None
+
 -- a channel has the type that is known of the element that makes it
 abbrev pub made_type : List Statement → Known → Reference → Option EsiType
-made_type elements known (R.Channel name) = known_of known (maker elements (R.Channel name))
-made_type elements known (R.Member id name) = None
+made_type elements known r = known_of known (channel_maker elements r)
 
 abbrev pub or_type : Option EsiType → Option EsiType → Option EsiType
 or_type None other = other
@@ -82,37 +86,44 @@ width_in ty = min TOO_WIDE (width_of ty)
 abbrev pub count_in : ℕ → ℕ
 count_in count = min GREATEST_COUNT count
 
-abbrev pub stages : ℕ → EsiType → Made
-stages count ty = record { ty = Some ty; element = E.Stages count (width_in ty) }
+abbrev pub in_stages : ℕ → EsiType → Made
+in_stages count ty = record { ty = Some ty; element = E.Stages count (width_in ty) }
 
-abbrev pub part : Part → EsiType → Made
-part p ty = record { ty = Some ty; element = E.Part p (width_in ty) }
+abbrev pub as_part : Part → EsiType → Made
+as_part p ty = record { ty = Some ty; element = E.Part p (width_in ty) }
 
 -- ---- each operation
 
 abbrev pub joined : Reference → EsiType → EsiType → Making
-joined left a b = if joinable a b then Ok (part P.Join (join_type a b)) else Err (reference_place left)
+joined left a b = if joinable a b then Ok (as_part P.Join (join_type a b)) else Err (reference_place left)
 
 abbrev pub mapped : Typed → Making
-mapped t = Ok (part (P.Map t.formula) t.ty)
+mapped t = Ok (as_part (P.Map t.formula) t.ty)
 
 abbrev pub scanned : ℕ → EsiType → Bits → Typed → Making
-scanned at ty word t = if same_types t.ty ty then Ok (part (P.Scan word t.formula) ty) else Err at
+scanned at ty word t = if same_types t.ty ty then Ok (as_part (P.Scan word t.formula) ty) else Err at
+
+-- a map, and a scan from its first state, over a source of a type
+abbrev pub map_over : Name → Expression → EsiType → Making
+map_over variable body a = typed (map_variables variable a) body >>= mapped
+
+abbrev pub scan_over : Name → EsiType → Name → Expression → Bits → EsiType → Making
+scan_over state ty variable body word a = typed (scan_variables state ty variable a) body >>= scanned (first_octet body) ty word
 
 abbrev pub scan_from : Name → EsiType → Name → Expression → EsiType → Option Bits → Making
 scan_from state ty variable body a None = Err (first_octet body)
-scan_from state ty variable body a (Some word) = typed (scan_variables state ty variable a) body >>= scanned (first_octet body) ty word
+scan_from state ty variable body a (Some word) = scan_over state ty variable body word a
 
 -- An operation that makes so many channels, with the types of its sources.
 abbrev pub operation_made : (Reference → Option EsiType) → ℕ → Operation → Making
-operation_made of channels (O.Stage source) = over (of source) (λ a. Ok (stages 1 a))
-operation_made of channels (O.Buffer count source) = over (of source) (λ a. Ok (stages (count_in count.value) a))
-operation_made of channels (O.Fifo depth source) = over (of source) (λ a. Ok (part (P.Fifo (width_in a) (count_in depth.value)) a))
-operation_made of channels (O.AsFifo source) = over (of source) (λ a. Ok (part P.AsFifo a))
-operation_made of channels (O.AsVr source) = over (of source) (λ a. Ok (part P.AsVr a))
-operation_made of channels (O.Fork source) = over (of source) (λ a. Ok (part (P.Fork (count_in channels)) a))
+operation_made of channels (O.Stage source) = over (of source) (λ a. Ok (in_stages 1 a))
+operation_made of channels (O.Buffer count source) = over (of source) (λ a. Ok (in_stages (count_in count.value) a))
+operation_made of channels (O.Fifo depth source) = over (of source) (λ a. Ok (as_part (P.Fifo (width_in a) (count_in depth.value)) a))
+operation_made of channels (O.AsFifo source) = over (of source) (λ a. Ok (as_part P.AsFifo a))
+operation_made of channels (O.AsVr source) = over (of source) (λ a. Ok (as_part P.AsVr a))
+operation_made of channels (O.Fork source) = over (of source) (λ a. Ok (as_part (P.Fork (count_in channels)) a))
 operation_made of channels (O.Join left right) = over (of left) (λ a. over (of right) (joined left a))
-operation_made of channels (O.Map source variable body) = over (of source) (λ a. typed (map_variables variable a) body >>= mapped)
+operation_made of channels (O.Map source variable body) = over (of source) (map_over variable body)
 operation_made of channels (O.Scan source state ty initial variable body) =
     over (of source) (λ a. scan_from state ty variable body a (literal_word ty initial.value))
 
@@ -136,14 +147,21 @@ abbrev pub refusals : {A : Type 0} → Result A ℕ → List ℕ
 refusals (Ok value) = []
 refusals (Err at) = at ∷ []
 
--- the places at which a statement does not fit, in the order of the text
-abbrev pub statement_misfits : Scope → (Reference → Option EsiType) → Statement → List ℕ
-statement_misfits scope of (S.Request at service port id) = []
-statement_misfits scope of (S.Instance at id body bindings) = flat_map (bound_misfits scope of body) bindings
-statement_misfits scope of (S.Channels at names operation) = refusals (operation_made of (length names) operation)
-statement_misfits scope of (S.Drive at sink source) = driven_misfits of sink source
+-- the places at which an element does not fit, in the order of the text
+abbrev pub element_misfits : Scope → (Reference → Option EsiType) → Statement → List ℕ
+element_misfits scope of (S.Request at service port id) = []
+element_misfits scope of (S.Instance at id body bindings) = flat_map (bound_misfits scope of body) bindings
+element_misfits scope of (S.Channels at names operation) = refusals (operation_made of (length names) operation)
+element_misfits scope of (S.Drive at sink source) = []
 
--- what it makes, where it fits
+-- the place at which a drive does not fit
+abbrev pub drive_misfit : (Reference → Option EsiType) → Statement → List ℕ
+drive_misfit of (S.Request at service port id) = []
+drive_misfit of (S.Instance at id body bindings) = []
+drive_misfit of (S.Channels at names operation) = []
+drive_misfit of (S.Drive at sink source) = driven_misfits of sink source
+
+-- what an element makes, where it fits
 abbrev pub made_or : Making → Made
 made_or (Ok made) = made
 made_or (Err at) = unknown
