@@ -7,3 +7,4 @@ pub mod Walk
 pub mod Views
 pub mod Slots
 pub mod Exact
+pub mod OperationLaws

@@ -7,7 +7,6 @@ use channel_types::EsiType;
 
 /// How many types stand inside one another, the type itself counted, where `TOO_DEEP` stands for all
 /// numbers above the most. It takes no memory, and calls itself as deep as the type.
-#[tactic(auto, using(crate::proofs::Greatest::greatest_push))]
 pub(crate) fn capped_nesting(ty: &EsiType) -> u32
     ensures { result ≡ min TOO_DEEP (nesting_of ty.now) }
 {

@@ -2,6 +2,7 @@
 ghost use Rattle.std.specs.Prelude.{◌≡◌, Ok, option_map};
 ghost use Rattle.esi_base.specs.Answers.{AnswersAs};
 ghost use Rattle.expression_types.specs.Typing.{literal_word};
+ghost use Rattle.expression_types.specs.Views.{type_in};
 ghost use Rattle.expression_types.specs.Rows.{first_octet};
 ghost use Rattle.channel_typing.specs.Typing.{Known, unknown, over, in_stages, as_part, width_in, count_in, map_over, scan_over, scan_from, joined, operation_made, type_at};
 ghost use Rattle.channel_typing.specs.Views.{source_in, origin_in, made_in};
@@ -275,13 +276,29 @@ fn scan_with<'b, 'a>(
     ensures { (known : Known) → AnswersAs (made_in known) (scan_over state.now ty.now variable.now body.now word (source_in input.entry)) result }
 {
     match input {
-        SourceType::Value(ValueType::Given(given)) => {
-            scan_over(alloc, word, state, ty, variable, body, given)
-        }
-        SourceType::Value(ValueType::Number(number)) => {
-            scan_over(alloc, word, state, ty, variable, body, &number.ty())
-        }
+        SourceType::Value(value) => scan_over_value(alloc, word, state, ty, variable, body, value),
         SourceType::Made(made) => scan_over(alloc, word, state, ty, variable, body, made),
+    }
+}
+
+/// The same over a type that stands in the text, or a bits type.
+fn scan_over_value<'a>(
+    alloc: Global,
+    word: Word,
+    state: &'a Name,
+    ty: &'a EsiType,
+    variable: &'a Name,
+    body: &'a Expression,
+    input: ValueType<'a>,
+) -> Result<MadeElement<'a>, Stop<usize>>
+    ensures { (known : Known) → AnswersAs (made_in known) (scan_over state.now ty.now variable.now body.now word (type_in input.entry)) result }
+{
+    match input {
+        ValueType::Given(given) => scan_over(alloc, word, state, ty, variable, body, given),
+        ValueType::Number(number) => {
+            let own = number.ty();
+            scan_over(alloc, word, state, ty, variable, body, &own)
+        }
     }
 }
 
