@@ -1,6 +1,6 @@
 -- What an operation makes, as it is worked out, is what the rules say: its type, and where it does not fit.
 use Rattle.std.proofs.Common.{◌≡◌, ℕ, ◌+◌, ◌≤◌, ◌&&◌, Bool, true, false, ◌⊎◌, inl, inr, List, [], ◌∷◌, Option, Some, None, max, refl, ap, sym, ◌∙◌, subst, arith}
-use Rattle.std.specs.Prelude.{Result, Ok, Err, nat_le, length, if◌then◌else◌}
+use Rattle.std.specs.Prelude.{◌↔◌, Result, Ok, Err, codes, nat_le, length, if◌then◌else◌}
 use Rattle.std.proofs.lemmas.Bool.{cases_Bool, false≢true, and_parts, and_from, leb-true, le-leb}
 use Rattle.esi_base.specs.Answers.{◌>>=◌}
 use Rattle.design_lex.specs.declared.limits.TheConstants.{WIDEST_TYPE}
@@ -30,10 +30,12 @@ use Rattle.channel_typing.specs.Typing.{Made, Making, unknown, over, in_stages, 
 -- ---- joins
 
 join_width : (a b : EsiType) → width_of (join_type a b) ≡ width_of a + width_of b
-join_width a b = width-Struct _ ∙ (let l = width-field (field_of _ a) in let r = width-field (field_of _ b) in omega (arith, l, r))
+join_width a b =
+    width-Struct (field_of (codes "l") a ∷ field_of (codes "r") b ∷ []) ∙ (let l = width-field (field_of (codes "l") a) in let r = width-field (field_of (codes "r") b) in omega (arith, l, r))
 
 join_nesting : (a b : EsiType) → nesting_of (join_type a b) ≡ max (nesting_of a) (nesting_of b) + 1
-join_nesting a b = nesting-Struct _ ∙ (let l = nesting-field (field_of _ a) in let r = nesting-field (field_of _ b) in omega (arith, l, r))
+join_nesting a b =
+    nesting-Struct (field_of (codes "l") a ∷ field_of (codes "r") b ∷ []) ∙ (let l = nesting-field (field_of (codes "l") a) in let r = nesting-field (field_of (codes "r") b) in omega (arith, l, r))
 
 joinable_sound : (a b : EsiType) → joinable a b ≡ true → IsJoinable a b
 joinable_sound a b e =
@@ -56,11 +58,18 @@ record Over (o : Option EsiType) (next : EsiType → Making) (r : Making) : Type
   is : o ≡ Some ty
   gives : next ty ≡ r
 
+abbrev fine : Made → Making
+fine m = Ok m
+
+abbrev bad : ℕ → Making
+bad at = Err at
+
+none_made : (m : Made) (ty : EsiType) (r : Making) → r ≡ Ok unknown → r ≡ Ok m → m.ty ≡ Some ty → ⊥
+none_made m ty (Ok n) e f t = let u : n ≡ unknown = cc in let v : n ≡ m = cc in let k : unknown.ty ≡ m.ty = ap (λ (m : Made). m.ty) (sym u ∙ v) in cc
+none_made m ty (Err at) e f t = cc
+
 over_ok : (o : Option EsiType) (next : EsiType → Making) (m : Made) (ty : EsiType) → over o next ≡ Ok m → m.ty ≡ Some ty → Over o next (Ok m)
-over_ok None next m ty e t = absurd (none_made e t)
-  where
-    none_made : Ok unknown ≡ Ok m → m.ty ≡ Some ty → ⊥
-    none_made e t = let u : unknown ≡ m = cc in let k : unknown.ty ≡ m.ty = ap (λ (m : Made). m.ty) u in cc
+over_ok None next m ty e t = absurd (none_made m ty (Ok unknown) refl e t)
 over_ok (Some a) next m ty e t = record { ty = a; is = refl; gives = e }
 
 over_err : (o : Option EsiType) (next : EsiType → Making) (at : ℕ) → over o next ≡ Err at → Over o next (Err at)
@@ -98,17 +107,17 @@ pub record Makes (r : Making) (ty : EsiType) : Type 0 where
   pub is : r ≡ Ok made
   pub has : made.ty ≡ Some ty
 
-same_made : (a b : Made) → Ok {E = ℕ} a ≡ Ok b → a ≡ b
+same_made : (a b : Made) → fine a ≡ fine b → a ≡ b
 same_made a b e = cc
 
 some_same : (a b : EsiType) → Some a ≡ Some b → a ≡ b
 some_same a b e = cc
 
 -- the type of what was made, by what makes it
-made_is : (made m : Made) (a ty : EsiType) → made.ty ≡ Some a → Ok {E = ℕ} made ≡ Ok m → m.ty ≡ Some ty → a ≡ ty
+made_is : (made m : Made) (a ty : EsiType) → made.ty ≡ Some a → fine made ≡ fine m → m.ty ≡ Some ty → a ≡ ty
 made_is made m a ty own e t = some_same a ty (sym own ∙ ap (λ (m : Made). m.ty) (same_made made m e) ∙ t)
 
-err_same : (i k : ℕ) → Err {A = Made} i ≡ Err k → i ≡ k
+err_same : (i k : ℕ) → bad i ≡ bad k → i ≡ k
 err_same i k e = cc
 
 module _ (of : Reference → Option EsiType) (channels : ℕ) where
@@ -292,3 +301,26 @@ module _ (of : Reference → Option EsiType) (channels : ℕ) where
     where
       not_joinable : (a b : EsiType) → (IsJoinable a b → ⊥) → joinable a b ≡ false
       not_joinable a b no_join = elim (cases_Bool (joinable a b)) [ inl j ↦ absurd (no_join (joinable_sound a b j)) | inr f ↦ f ]
+
+-- ---- the laws
+
+-- What an operation makes, as it is worked out from the types of its sources, has a type exactly where the rules give it one.
+abbrev pub EachMakes : Type 0
+EachMakes = (of : Reference → Option EsiType) (channels : ℕ) (operation : Operation) (ty : EsiType) → Makes (operation_made of channels operation) ty ↔ Sourced of operation (λ types. MakesType operation types ty)
+
+-- It is worked out not to fit exactly where it does not fit by the rules, at the same place.
+abbrev pub EachMisfits : Type 0
+EachMisfits = (of : Reference → Option EsiType) (channels : ℕ) (operation : Operation) (at : ℕ)
+    → (operation_made of channels operation ≡ Err at) ↔ Sourced of operation (λ types. IsOperationMisfit operation types at)
+
+pub each_makes : EachMakes
+each_makes of channels operation ty = (
+  λ m. operation_sound of channels operation m.made ty m.is m.has,
+  λ s. operation_complete of channels s.holds s.known,
+)
+
+pub each_misfits : EachMisfits
+each_misfits of channels operation at = (
+  λ e. operation_refused of channels operation at e,
+  λ s. misfit_complete of channels s.holds s.known,
+)

@@ -3,12 +3,12 @@ ghost use Rattle.std.specs.Prelude.{◌≡◌, option_copied, option_map, slice_
 ghost use Rattle.check_rules.specs.Scopes.{and_then, find_id, find_port};
 ghost use Rattle.channel_typing.specs.DeclaredTypes.{declared_type, part_type, member_type, port_type, type_of_port};
 
+use channel_types::EsiType;
 use check_rules::keys::name_key;
 use design_scopes::body_names::owner_of;
 use design_scopes::bundles::BundleNames;
 use design_scopes::modules::ModuleNames;
 use design_scopes::scope_names::ScopeNames;
-use channel_types::EsiType;
 use design_tree::{ApplicationId, ModulePort, Name, Reference, Statement};
 
 /// The type with which what a reference is to is declared, if it is declared with one.
@@ -77,10 +77,7 @@ fn part_type<'v, 'a>(
 }
 
 /// The type of a member of a bundle.
-fn member_type<'v, 'a>(
-    name: &'a Name,
-    bundle: Option<&'v BundleNames<'a>>,
-) -> Option<&'a EsiType>
+fn member_type<'v, 'a>(name: &'a Name, bundle: Option<&'v BundleNames<'a>>) -> Option<&'a EsiType>
     ensures { option_copied result ≡ member_type name.now (option_copied bundle.entry) }
 {
     match bundle {

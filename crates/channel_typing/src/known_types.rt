@@ -1,6 +1,5 @@
 //! The types of the channels of a body that are known, without a copy where a type stands in the text.
 ghost use Rattle.std.specs.Prelude.{◌≡◌, Some, None, IfOk, OnOk, replicate, set, get_or, option_map};
-
 ghost use Rattle.channel_typing.specs.Views.{source_in, origin_in, new_in};
 ghost use Rattle.channel_typing.specs.Slots.{slot_type, slot_types};
 ghost use Rattle.expression_types.specs.Views.{type_in};

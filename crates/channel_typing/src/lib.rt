@@ -7,6 +7,7 @@ mod declared_types;
 mod expressions;
 mod joins;
 mod known_types;
+mod laws;
 pub mod limits;
 pub mod made_element;
 mod nesting;
@@ -20,5 +21,6 @@ mod statements;
 pub mod typed_element;
 
 pub use body::type_body;
+pub use laws::operation_law;
 pub use limits::GREATEST_COUNT;
 pub use typed_element::TypedElement;

@@ -50,9 +50,7 @@ pub(crate) fn operation_made<'v, 'a>(
             origin_of(scope, elements, source),
             capped_count(depth.value),
         )),
-        Operation::AsFifo(source) => {
-            Ok(as_fifo_made(known, origin_of(scope, elements, source)))
-        }
+        Operation::AsFifo(source) => { Ok(as_fifo_made(known, origin_of(scope, elements, source))) }
         Operation::AsVr(source) => Ok(as_vr_made(known, origin_of(scope, elements, source))),
         Operation::Fork(source) => Ok(fork_made(
             known,
@@ -64,12 +62,7 @@ pub(crate) fn operation_made<'v, 'a>(
             source,
             variable,
             body,
-        } => map_made(
-            alloc,
-            type_of(scope, elements, known, source),
-            variable,
-            body,
-        ),
+        } => map_of(alloc, scope, elements, known, source, variable, body),
         Operation::Scan {
             source,
             state,
@@ -77,9 +70,12 @@ pub(crate) fn operation_made<'v, 'a>(
             initial,
             variable,
             body,
-        } => scan_made(
+        } => scan_of(
             alloc,
-            type_of(scope, elements, known, source),
+            scope,
+            elements,
+            known,
+            source,
             state,
             ty,
             initial.value,
@@ -213,6 +209,26 @@ fn join_of<'v, 'a>(
     join_made(alloc, left, one, other)
 }
 
+/// A map of a reference.
+fn map_of<'v, 'a>(
+    alloc: Global,
+    scope: &ScopeNames<'v, 'a>,
+    elements: &Elements<'a>,
+    known: &KnownTypes<'a>,
+    source: &'a Reference,
+    variable: &'a Name,
+    body: &'a Expression,
+) -> Result<MadeElement<'a>, Stop<usize>>
+    ensures { AnswersAs (made_in known.now) (over (type_at scope.now elements.now known.now source.now) (map_over variable.now body.now)) result }
+{
+    map_made(
+        alloc,
+        type_of(scope, elements, known, source),
+        variable,
+        body,
+    )
+}
+
 /// A map.
 fn map_made<'b, 'a>(
     alloc: Global,
@@ -240,6 +256,32 @@ fn map_made<'b, 'a>(
             Err(stop) => Err(stop),
         },
     }
+}
+
+/// A scan of a reference.
+fn scan_of<'v, 'a>(
+    alloc: Global,
+    scope: &ScopeNames<'v, 'a>,
+    elements: &Elements<'a>,
+    known: &KnownTypes<'a>,
+    source: &'a Reference,
+    state: &'a Name,
+    ty: &'a EsiType,
+    initial: u128,
+    variable: &'a Name,
+    body: &'a Expression,
+) -> Result<MadeElement<'a>, Stop<usize>>
+    ensures { AnswersAs (made_in known.now) (over (type_at scope.now elements.now known.now source.now) (λ a. scan_from state.now ty.now variable.now body.now a (literal_word ty.now initial))) result }
+{
+    scan_made(
+        alloc,
+        type_of(scope, elements, known, source),
+        state,
+        ty,
+        initial,
+        variable,
+        body,
+    )
 }
 
 /// A scan.
@@ -344,10 +386,22 @@ fn first_octet(expression: &Expression) -> usize
     match expression {
         Expression::Variable(name) => name.at,
         Expression::Part { of, suffixes: _ } => first_octet(of.get()),
-        Expression::Literal { at, ty: _, value: _ } => *at,
-        Expression::Make { at, ty: _, parts: _ } => *at,
+        Expression::Literal {
+            at,
+            ty: _,
+            value: _,
+        } => *at,
+        Expression::Make {
+            at,
+            ty: _,
+            parts: _,
+        } => *at,
         Expression::Cast { at, ty: _, of: _ } => *at,
-        Expression::Zext { at, width: _, of: _ } => *at,
+        Expression::Zext {
+            at,
+            width: _,
+            of: _,
+        } => *at,
         Expression::Slice {
             at,
             high: _,

@@ -56,7 +56,9 @@ fn statement_made<'v, 'a>(
     match statement {
         Statement::Request { .. } => Ok(unknown_made()),
         Statement::Instance {
-            module, bindings, ..
+            module,
+            bindings,
+            ..
         } => match first_bound_misfit(scope, elements, known, module, bindings.as_slice()) {
             Some(at) => Err(Stop::Refused(at)),
             None => Ok(MadeElement {
@@ -65,7 +67,9 @@ fn statement_made<'v, 'a>(
             }),
         },
         Statement::Channels {
-            names, operation, ..
+            names,
+            operation,
+            ..
         } => operation_made(alloc, scope, elements, known, names.len(), operation),
         Statement::Drive { .. } => Ok(unknown_made()),
     }
