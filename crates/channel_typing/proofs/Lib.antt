@@ -1,0 +1,5 @@
+pub mod Greatest
+pub mod Caps
+pub mod SlotLaws
+pub mod OwnPorts
+pub mod Firsts

@@ -1,0 +1,10 @@
+pub mod DeclaredTypes
+pub mod Joins
+pub mod Rules
+pub mod Typing
+pub mod Misfits
+pub mod Walk
+pub mod Views
+pub mod Slots
+pub mod Exact
+pub mod OperationLaws
