@@ -7,7 +7,8 @@ ghost use Rattle.check_rules.specs.Scopes.{bundles_of, services_of};
 ghost use Rattle.check_rules.specs.Undeclared.{BreaksUndeclared};
 ghost use Rattle.check_rules.specs.Directions.{BreaksDirections};
 ghost use Rattle.check_rules.specs.Uses.{BreaksUsedTwice, BreaksUnused};
-ghost use Rattle.design_scopes.specs.Bodies.{DesignText, bodies_in, text_of};
+ghost use Rattle.design_scopes.specs.Bodies.{AreBodies, DesignText, bodies_in, text_of};
+ghost use Rattle.design_scopes.specs.Resolving.{AreDeclared};
 
 use crate::counts::first_count;
 use crate::declared_twice::first_declared_twice;
@@ -66,6 +67,20 @@ impl<'a> DesignNames<'a> {
             declared,
             bodies,
         })
+    }
+
+    /// What the design declares, found by name.
+    pub fn declared(&self) -> &Declared<'a>
+        ensures { AreDeclared self.now.declarations result.now }
+    {
+        &self.declared
+    }
+
+    /// The bodies of the design, in the order of its text.
+    pub fn bodies(&self) -> &[Body<'a>]
+        ensures { AreBodies self.now.declarations self.now.top result.now }
+    {
+        self.bodies.as_slice()
     }
 
     /// The first place at which a name is declared that was declared before in its space. It takes time in

@@ -1,0 +1,3 @@
+pub mod BodyBreaks
+pub mod Breaks
+pub mod Law
