@@ -1,5 +1,4 @@
 -- The numbers of the rules are 301 to 312.
-use Rattle.std.proofs.Common.{◌≤◌}
 use Rattle.check_rules.specs.RuleNumbers.{rule_number}
 use Rattle.check_rules.specs.declared.rule.CheckRule.{CheckRule}
 use Rattle.check_rules.specs.declared.rule.CheckRule.TheVariants as R

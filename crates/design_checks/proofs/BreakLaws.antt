@@ -1,5 +1,5 @@
 -- What is reported of several checks.
-use Rattle.std.proofs.Common.{◌≡◌, ℕ, map, take, List, [], ◌∷◌, ◌++◌, ap, sym, subst, refl, ◌⊎◌, inl, inr, ◌∙◌}
+use Rattle.std.proofs.Common.{◌≡◌, ℕ, map, take, List, [], ◌∷◌, ◌++◌, ap, sym, subst, refl, inl, inr, ◌∙◌}
 use Rattle.std.specs.Prelude.{Option, Some, None, Result, Ok, Err, IfOk, Contains, option_map}
 use Rattle.std.specs.List.{flat_map}
 use Rattle.name_tables.specs.FirstPlaces.{Reports}
@@ -10,7 +10,7 @@ use Rattle.design_scopes.specs.Resolving.{scope_in, AreDeclared}
 use Rattle.design_tree.specs.declared.declarations.Declaration.{Declaration}
 use Rattle.design_tree.specs.declared.top.Top.{Top}
 use Rattle.name_tables.specs.PlaceLaws.{contains_here, contains_later}
-use Rattle.check_rules.specs.Checks.{Check, by_place, by_order, IsFirstOf, Accepts, Refuses}
+use Rattle.check_rules.specs.Checks.{Check, by_place, by_order, Accepts, Refuses}
 use Rattle.check_rules.specs.Dependencies.{elements_of, BreaksDependencies}
 use Rattle.check_rules.specs.Scopes.{Scope, scopes}
 use Rattle.check_rules.specs.Signalling.{signalling_breaks, in_order, wrong_signalling}

@@ -1,11 +1,10 @@
 -- A design is either accepted or refused, and refused by one rule at one place.
-use Rattle.std.proofs.Common.{◌≡◌, ℕ, suc, List, [], ◌∷◌, ◌⊎◌, inl, inr, arith, ap, length, get_or, sym, ◌∙◌}
+use Rattle.std.proofs.Common.{◌≡◌, ℕ, suc, List, [], ◌∷◌, inl, inr, arith, ap, length, get_or, sym, ◌∙◌}
 use Rattle.std.specs.Prelude.{Contains}
 use Rattle.design_tree.specs.declared.design.DesignTree.{DesignTree}
 use Rattle.design_tree.specs.declared.design.DesignTree.TheVariants as F
-use Rattle.name_tables.specs.FirstPlaces.{IsFirstPlace, Nowhere}
 use Rattle.check_rules.specs.declared.rule.CheckRule.{CheckRule}
-use Rattle.check_rules.specs.Checks.{Check, by_place, by_order, IsFirstOf, Accepts, Refuses, checks, checks_over}
+use Rattle.check_rules.specs.Checks.{Check, by_place, by_order, Accepts, Refuses, checks, checks_over}
 use Rattle.check_rules.specs.declared.rule.CheckRule.TheVariants as R
 use Rattle.check_rules.specs.declared.limits.TheConstants.{LARGEST_DESIGN, MAX_ENDPOINTS}
 use Rattle.check_rules.specs.Counts.{stages_outside, BreaksCounts}

@@ -1,4 +1,4 @@
-use Rattle.std.proofs.Common.{◌≡◌, List, ℕ, ap, subst, ◌∙◌}
+use Rattle.std.proofs.Common.{◌≡◌, List, ap, subst, ◌∙◌}
 use Rattle.name_tables.specs.FirstPlaces.{Reports}
 use Rattle.element_order.specs.Orders.{ordered}
 use Rattle.design_tree.specs.declared.statements.Statement.{Statement}

@@ -1,4 +1,4 @@
-use Rattle.std.proofs.Common.{◌≡◌, List, subst, sym, ◌∙◌}
+use Rattle.std.proofs.Common.{List, subst, sym}
 use Rattle.check_rules.specs.Scopes.{Scope}
 use Rattle.channel_typing.specs.Misfits.{misfits}
 use Rattle.design_scopes.specs.Bodies.{bodies_in}

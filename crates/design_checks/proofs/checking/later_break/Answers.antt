@@ -1,11 +1,9 @@
 use Rattle.std.proofs.Common.{subst, sym}
-use Rattle.std.specs.Prelude.{Option}
 use Rattle.name_tables.specs.FirstPlaces.{Nowhere}
 use Rattle.channel_typing.specs.Misfits.{misfits}
 use Rattle.check_rules.specs.DeclaredTwice.{BreaksDeclaredTwice}
 use Rattle.check_rules.specs.Scopes.{scopes}
 use Rattle.design_scopes.specs.Bodies.{DesignText, bodies_in}
-use Rattle.design_checks.specs.declared.rule_break.RuleBreak.{RuleBreak}
 use Rattle.design_checks.specs.Breaks.{body_checks, total_checks, ReportsBreak}
 use Rattle.design_checks.proofs.BreakLaws.{broken_before, kept_then}
 use Rattle.design_checks.proofs.checking.later_break.Goals as goal

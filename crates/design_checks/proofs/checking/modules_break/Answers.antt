@@ -1,5 +1,4 @@
 use Rattle.std.proofs.Common.{◌++◌, subst}
-use Rattle.std.specs.Prelude.{Option}
 use Rattle.channel_typing.specs.Misfits.{misfits}
 use Rattle.check_rules.specs.Scopes.{scopes}
 use Rattle.design_scopes.specs.Bodies.{DesignText, bodies_in}
