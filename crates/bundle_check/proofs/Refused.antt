@@ -1,4 +1,5 @@
 -- The numbers of the rules are 301 to 312.
+use Rattle.std.proofs.Common.{arith}
 use Rattle.check_rules.specs.RuleNumbers.{rule_number}
 use Rattle.check_rules.specs.declared.rule.CheckRule.{CheckRule}
 use Rattle.check_rules.specs.declared.rule.CheckRule.TheVariants as R
