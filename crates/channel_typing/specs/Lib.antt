@@ -8,3 +8,4 @@ pub mod Views
 pub mod Slots
 pub mod Exact
 pub mod OperationLaws
+pub mod BodyLaws
