@@ -1,5 +1,5 @@
 -- Sums of widths and depths that are capped: the tests of them are those of the numbers themselves.
-use Rattle.std.proofs.Common.{◌≡◌, ℕ, ◌+◌, ◌≤◌, ◌<◌, Bool, true, false, inl, inr, min, max, sym, ◌∙◌, arith}
+use Rattle.std.proofs.Common.{◌≡◌, ℕ, ◌+◌, Bool, true, false, inl, inr, min, max, sym, ◌∙◌, arith}
 use Rattle.std.specs.Prelude.{nat_le}
 use Rattle.std.proofs.lemmas.Bool.{cases_Bool, leb-true, leb-false, le-leb, lt-leb}
 use Rattle.design_lex.specs.declared.limits.TheConstants.{WIDEST_TYPE, TOO_WIDE}

@@ -1,6 +1,6 @@
 -- The first of some places.
-use Rattle.std.proofs.Common.{◌≡◌, ℕ, List, [], ◌∷◌, ◌++◌, Option, Some, None, refl, ap, sym, ◌∙◌}
-use Rattle.std.specs.Prelude.{Result, Ok, Err}
+use Rattle.std.proofs.Common.{◌≡◌, ℕ, List, [], ◌∷◌, ◌++◌, Option, Some, None, refl, ap}
+use Rattle.std.specs.Prelude.{Ok, Err}
 use Rattle.body_order.specs.Signals.{first_of, or_else}
 use Rattle.channel_typing.specs.Walk.{first_or}
 

@@ -8,7 +8,7 @@ use Rattle.design_tree.specs.declared.statements.Statement.{Statement}
 use Rattle.design_tree.specs.declared.statements.Statement.TheVariants as S
 use Rattle.check_rules.specs.Scopes.{Scope}
 use Rattle.channel_typing.specs.declared.typed_element.TypedElement.{TypedElement}
-use Rattle.channel_typing.specs.Typing.{Known, Made, Making, type_at, operation_made, refusals, made_or, element_misfits, statement_made}
+use Rattle.channel_typing.specs.Typing.{Known, Made, Making, type_at, refusals, made_or, element_misfits, statement_made}
 use Rattle.channel_typing.specs.Misfits.{misfits_of, made_by, known_with, known_after, misfits_along, elements_along, nothing_known, drive_misfits, body_misfits, elements_typed}
 use Rattle.channel_typing.specs.Walk.{first_or, statement_typed, number_typed, stepped, typed_along, drives_typed, body_typed}
 

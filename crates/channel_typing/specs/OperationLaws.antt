@@ -1,6 +1,6 @@
 -- What an operation makes, as it is worked out, is what the rules say: its type, and where it does not fit.
-use Rattle.std.proofs.Common.{◌≡◌, ℕ, ◌+◌, ◌≤◌, ◌&&◌, Bool, true, false, ◌⊎◌, inl, inr, List, [], ◌∷◌, Option, Some, None, max, refl, ap, sym, ◌∙◌, subst, arith}
-use Rattle.std.specs.Prelude.{◌↔◌, Result, Ok, Err, codes, nat_le, length, if◌then◌else◌}
+use Rattle.std.proofs.Common.{◌≡◌, ℕ, ◌+◌, Bool, true, false, ◌⊎◌, inl, inr, List, [], ◌∷◌, Option, Some, None, max, refl, ap, sym, ◌∙◌, subst, arith}
+use Rattle.std.specs.Prelude.{◌↔◌, Result, Ok, Err, codes, nat_le, if◌then◌else◌}
 use Rattle.std.proofs.lemmas.Bool.{cases_Bool, false≢true, and_parts, and_from, leb-true, le-leb}
 use Rattle.esi_base.specs.Answers.{◌>>=◌}
 use Rattle.design_lex.specs.declared.limits.TheConstants.{WIDEST_TYPE}
@@ -25,7 +25,7 @@ use Rattle.check_rules.specs.References.{operation_sources, reference_place}
 use Rattle.channel_typing.specs.Joins.{join_type, field_of, IsJoinable, joinable}
 use Rattle.channel_typing.specs.Rules as M
 use Rattle.channel_typing.specs.Rules.{map_variables, scan_variables, MakesType, IsOperationMisfit, EachHas}
-use Rattle.channel_typing.specs.Typing.{Made, Making, unknown, over, in_stages, as_part, width_in, count_in, joined, mapped, scanned, map_over, scan_over, scan_from, operation_made}
+use Rattle.channel_typing.specs.Typing.{Made, Making, unknown, over, in_stages, as_part, width_in, count_in, joined, mapped, scanned, map_over, scan_from, operation_made}
 
 -- ---- joins
 

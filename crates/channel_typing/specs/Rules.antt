@@ -1,5 +1,5 @@
 -- The types of the channels of a body, and what does not fit: a line for each case.
-use Rattle.std.specs.Prelude.{◌≡◌, ℕ, true, Option, Some, None, Ok, Err, List, [], ◌∷◌, length, slice_get, Contains}
+use Rattle.std.specs.Prelude.{◌≡◌, ℕ, true, Some, None, Ok, Err, List, [], ◌∷◌, length, slice_get, Contains}
 use Rattle.channel_types.specs.declared.esi_type.EsiType.{EsiType}
 use Rattle.design_tree.specs.declared.leaves.Name.{Name}
 use Rattle.design_tree.specs.declared.leaves.Number.{Number}

@@ -1,5 +1,5 @@
 -- The type of what a statement makes, and what does not fit, from the types that are known: as it is worked out.
-use Rattle.std.specs.Prelude.{ℕ, if◌then◌else◌, min, Bool, Option, Some, None, Result, Ok, Err, List, [], ◌∷◌, ◌++◌, flat_map, length, get_or}
+use Rattle.std.specs.Prelude.{ℕ, if◌then◌else◌, min, Option, Some, None, Result, Ok, Err, List, [], ◌∷◌, flat_map, length, get_or}
 use Rattle.esi_base.specs.Answers.{◌>>=◌}
 use Rattle.design_lex.specs.declared.limits.TheConstants.{TOO_WIDE}
 use Rattle.channel_types.specs.declared.esi_type.EsiType.{EsiType}
