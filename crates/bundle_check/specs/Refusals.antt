@@ -1,5 +1,5 @@
 -- The refusals of a design that was read.
-use Rattle.std.specs.Prelude.{◌≡◌, ℕ, ◌≤◌, ◌×◌, List}
+use Rattle.std.specs.Prelude.{◌≡◌, ℕ, ◌≤◌, List}
 use Rattle.channel_typing.specs.Misfits.{misfits}
 use Rattle.check_rules.specs.Checks.{Refuses, checks}
 use Rattle.check_rules.specs.RuleNumbers.{rule_number}

@@ -1,5 +1,5 @@
 //! A design is checked.
-ghost use Rattle.std.specs.Prelude.{◌≡◌, ⊥, IfOk};
+ghost use Rattle.std.specs.Prelude.{◌≡◌, IfOk};
 ghost use Rattle.esi_base.specs.Answers.{IfRefused};
 ghost use Rattle.channel_typing.specs.Misfits.{misfits};
 ghost use Rattle.check_rules.specs.Checks.{Accepts, checks};
