@@ -3,3 +3,4 @@ pub mod Caps
 pub mod SlotLaws
 pub mod OwnPorts
 pub mod Firsts
+pub mod ListedLaws

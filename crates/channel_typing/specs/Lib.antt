@@ -9,3 +9,4 @@ pub mod Slots
 pub mod Exact
 pub mod OperationLaws
 pub mod BodyLaws
+pub mod Listed

@@ -21,6 +21,6 @@ mod statements;
 pub mod typed_element;
 
 pub use body::type_body;
-pub use laws::{body_law, operation_law};
+pub use laws::{body_law, listed_law, operation_law};
 pub use limits::GREATEST_COUNT;
 pub use typed_element::TypedElement;
