@@ -13,8 +13,23 @@ FIRST_OCTETS = 2_000_000
 ENOUGH_SECONDS = 0.25
 
 
+def is_built():
+    """Whether the program stands, and nothing of the crates is newer than it."""
+    if not os.path.exists(PROGRAM):
+        return False
+    built = os.path.getmtime(PROGRAM)
+    for folder, folders, files in os.walk(os.path.join(TOP, "crates")):
+        folders[:] = [name for name in folders if name not in ("out", "must-fail")]
+        for name in files:
+            if name.endswith((".rt", ".antt")) and os.path.getmtime(os.path.join(folder, name)) > built:
+                return False
+    return True
+
+
 def build():
-    """Proves and builds the program, by one run of it."""
+    """Proves and builds the program, by one run of it, unless it was built (as `rt ci` does too)."""
+    if is_built():
+        return
     subprocess.run(
         ["rt", "run", "--", "read-stream-100", "1", "data/three.stream"],
         cwd=CRATE, check=True, stdout=subprocess.DEVNULL, stderr=subprocess.DEVNULL,
