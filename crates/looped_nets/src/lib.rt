@@ -3,7 +3,7 @@
 #![tactic(auto)]
 
 mod fifo;
-mod fork;
+pub mod fork;
 
 pub use fifo::fifos_obey;
-pub use fork::forks_obey;
+pub use fork::{ForkPlaces, forks_obey, push_fork_forward, push_fork_next, push_fork_ready, push_fork_registers};
