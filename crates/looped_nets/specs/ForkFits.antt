@@ -59,10 +59,9 @@ module _ (plan : Plan) (s : ForkNets) (kept : IsPlan plan) (here : s.backward �
 
   wait_turn : (i : ℕ) → i < branches s → FitAll (with_nets plan (nets_upto (wait_nets s) i)) (wait_nets s i)
   wait_turn i lt =
-      let p0 : Plan = with_nets plan (nets_upto (wait_nets s) i) in
-      (
+      let p0 : Plan = with_nets plan (nets_upto (wait_nets s) i) in (
         fit_two p0 (s.registers + i) (s.readies i) 1 (still_all plan (s.backward + 0) (s.registers + i) 1 (nets_upto (wait_nets s) i) back_begin (flags i lt))
-        (still_all plan (s.backward + 0) (s.readies i) 1 (nets_upto (wait_nets s) i) back_begin (readies i lt)),
+            (still_all plan (s.backward + 0) (s.readies i) 1 (nets_upto (wait_nets s) i) back_begin (readies i lt)),
         tt,
       )
 
@@ -93,10 +92,9 @@ module _ (plan : Plan) (s : ForkNets) (kept : IsPlan plan) (here : s.backward �
 
   chain_turn : (i : ℕ) → i < suc s.more → FitAll (with_nets waited (nets_upto (chain_nets s) i)) (chain_nets s i)
   chain_turn i lt =
-      let p0 : Plan = with_nets waited (nets_upto (chain_nets s) i) in
-      (
+      let p0 : Plan = with_nets waited (nets_upto (chain_nets s) i) in (
         fit_two p0 (chain s i) (s.backward + suc i) 1 (chain_carries i (omega arith))
-        (still_all waited (s.backward + branches s + 0) (s.backward + suc i) 1 (nets_upto (chain_nets s) i) chain_begin (wait_carries (suc i) (omega arith))),
+            (still_all waited (s.backward + branches s + 0) (s.backward + suc i) 1 (nets_upto (chain_nets s) i) chain_begin (wait_carries (suc i) (omega arith))),
         tt,
       )
 

@@ -6,3 +6,6 @@ pub mod ForkFits
 pub mod Counts
 pub mod Fifos
 pub mod FifoLemmas
+pub mod CountBits
+pub mod FifoFits
+pub mod Examples

@@ -1,5 +1,5 @@
 -- Nets that are made turn by turn fit behind what stands before them, and the registers of each turn take their words from nets of that turn.
-use Rattle.std.specs.Prelude.{◌≡◌, ℕ, zero, suc, ◌+◌, ◌<◌, ◌++◌, List, length, Some, None, refl}
+use Rattle.std.specs.Prelude.{◌≡◌, ℕ, zero, suc, ◌+◌, ◌<◌, ◌++◌, ◌∷◌, [], List, length, Some, None, refl}
 use Rattle.std.proofs.Common.{sym, ◌∙◌, ap, subst, arith, inl, inr, append_assoc, add-one, get_or-set_same, get_or-set_other}
 use Rattle.std.proofs.lemmas.Bool.{cases_lt}
 use Rattle.std.proofs.lemmas.List.{length-set}
@@ -28,6 +28,9 @@ end_more plan at net e = record { count = counted_more plan net e.count; here = 
 
 pub end_all : (plan : Plan) (at next : ℕ) (nets : List Net) → at + length nets ≡ next → EndsAt plan at → EndsAt (with_nets plan nets) next
 end_all plan at next nets f e = record { count = counted_all plan nets e.count; here = omega (arith, f, e.here, length-with_nets plan nets) }
+
+pub end_next : (plan : Plan) (at next : ℕ) (net : Net) → at + 1 ≡ next → EndsAt plan at → EndsAt (with_net plan net) next
+end_next plan at next net f e = end_all plan at next (net ∷ []) f e
 
 pub end_upto : (plan : Plan) (turn : ℕ → List Net) (place : ℕ → ℕ) → ArePlaces turn place → (n : ℕ) → EndsAt plan (place 0) → EndsAt (with_nets plan (nets_upto turn n)) (place n)
 end_upto plan turn place p n e = end_all plan (place 0) (place n) (nets_upto turn n) (behind_upto turn place p n) e
@@ -74,7 +77,7 @@ pub linked_widths : (plan : Plan) (register next : ℕ → ℕ) (n : ℕ) → (l
 linked_widths plan register next zero = refl
 linked_widths plan register next (suc n) = linked_widths plan register next n
 
-same_next : (old new : Plan) (register next : ℕ) → new.nets ≡ old.nets → new.widths ≡ old.widths → IsNextOf old register next → IsNextOf new register next
+pub same_next : (old new : Plan) (register next : ℕ) → new.nets ≡ old.nets → new.widths ≡ old.widths → IsNextOf old register next → IsNextOf new register next
 same_next old new register next e f h = record {
   is_one = rw e h.is_one;
   within = rw e h.within;
@@ -86,6 +89,10 @@ pub may_link_more : (plan now : Plan) (register next : ℕ → ℕ) (n i : ℕ) 
 may_link_more plan now register next n i lt can is =
     subst (λ (p : Plan). IsNextOf p (register i) (next i)) (sym is)
     (same_next plan (linked plan register next i) (register i) (next i) (linked_nets plan register next i) (linked_widths plan register next i) (can.each i lt))
+
+pub next_behind : (plan now : Plan) (register next : ℕ → ℕ) (k own its_next : ℕ) → IsNextOf plan own its_next → now ≡ linked plan register next k → IsNextOf now own its_next
+next_behind plan now register next k own its_next may is =
+    subst (λ (p : Plan). IsNextOf p own its_next) (sym is) (same_next plan (linked plan register next k) own its_next (linked_nets plan register next k) (linked_widths plan register next k) may)
 
 length_linked : (plan : Plan) (register next : ℕ → ℕ) (n : ℕ) → length (linked plan register next n).nexts ≡ length plan.nexts
 length_linked plan register next zero = refl
