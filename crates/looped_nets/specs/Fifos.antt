@@ -1,10 +1,12 @@
 -- The nets of a FIFO: a count and places for words.
-use Rattle.std.specs.Prelude.{◌≡◌, ℕ, suc, ◌+◌, ◌-◌, ◌*◌, ◌<◌, ◌^◌, nat_lt, if◌then◌else◌, false, List, [], ◌∷◌, Some, replicate}
+use Rattle.std.specs.Prelude.{◌≡◌, ℕ, suc, ◌+◌, ◌-◌, ◌*◌, ◌<◌, ◌≤◌, ◌++◌, ◌^◌, nat_lt, if◌then◌else◌, false, List, [], ◌∷◌, Some, replicate}
+use Rattle.std.specs.Int.Count.{count_leading_zeros}
 use Rattle.esi_base.specs.Bits.{number_of, bits_of}
+use Rattle.netlist.specs.declared.limits.TheConstants.{MIN_DEPTH, MAX_DEPTH}
 use Rattle.netlist.specs.declared.net.Net.{Net}
 use Rattle.netlist.specs.declared.net.Net.TheVariants.{Register, Const, Not, And, Equal, Add, Sub, Choose, Concat}
 use Rattle.netlist.specs.Nets.{Bits, word_at}
-use Rattle.netlist.specs.Plans.{Plan, next_of}
+use Rattle.netlist.specs.Plans.{Plan, with_next, next_of, IsNextOf}
 use Rattle.element_laws.specs.Signals.{ReadsHeld}
 use Rattle.element_laws.specs.Histories.{Channel, KeepsOffers, Always, reached}
 use Rattle.element_laws.specs.Elements.Element.{fifo}
@@ -13,7 +15,8 @@ use Rattle.element_wires.specs.Wires.{FifoRegisters, fifo_words, firsts}
 use Rattle.element_wires.specs.WireLaws.{IsFifoRun, holding}
 use Rattle.net_lists.specs.Lists.{StandFrom, Carries}
 use Rattle.net_lists.specs.Runs.{carried, fifo_carried, IsNetRun}
-use Rattle.looped_nets.specs.Loops.{nets_upto}
+use Rattle.looped_nets.specs.declared.fifo.FifoPlaces.{FifoPlaces}
+use Rattle.looped_nets.specs.Loops.{nets_upto, linked, CanLinkAll}
 
 -- Between which nets a FIFO of `more` + 1 places stands, and where its nets do: how wide its words are and how many bits its count has,
 -- the valid and the word of its input, the rden of its output, its first register, and the first one of its forward, backward and next nets.
@@ -80,6 +83,79 @@ last_nets s i = Const (bits_of s.bits i) ∷ Equal (s.next + 4) (slot_place s i)
 -- w of each place
 abbrev pub slot_next : FifoNets → ℕ → ℕ
 slot_next s i = if nat_lt i s.more then slot_place s i + 4 else slot_place s i + 3
+
+-- ---- the passes
+
+-- how many bits the count has: the digits of the depth in base 2
+unfoldable pub count_bits : ℕ → ℕ
+count_bits depth = 32 - count_leading_zeros 32 depth
+
+-- A FIFO between these nets, whose nets of what it holds next stand from a place on.
+abbrev pub fifo_of : FifoPlaces → ℕ → FifoNets
+fifo_of p at = record {
+  more = p.depth - 1;
+  width = p.width;
+  bits = count_bits p.depth;
+  valid = p.valid;
+  word = p.word;
+  rden = p.rden;
+  registers = p.registers;
+  forward = p.forward;
+  backward = p.backward;
+  next = at;
+}
+
+abbrev pub fifo_registers : ℕ → ℕ → List Net
+fifo_registers width depth = Register (replicate (count_bits depth) false) ∷ [] ++ nets_upto (λ i. Register (replicate width false) ∷ []) depth
+
+abbrev pub fifo_front : ℕ → ℕ → ℕ → List Net
+fifo_front depth registers at = Const (bits_of (count_bits depth) 0) ∷ Equal registers at ∷ []
+
+abbrev pub fifo_back : ℕ → ℕ → ℕ → List Net
+fifo_back depth registers at = Const (bits_of (count_bits depth) depth) ∷ Equal registers at ∷ Not (at + 1) ∷ []
+
+abbrev pub fifo_next : FifoPlaces → ℕ → List Net
+fifo_next p at = let s : FifoNets = fifo_of p at in count_nets s ++ nets_upto (early_nets s) s.more ++ last_nets s s.more
+
+-- the register of a place, and its next net, where it is not the last place
+abbrev pub place_register : FifoPlaces → ℕ → ℕ
+place_register p i = p.registers + 1 + i
+
+abbrev pub early_next : ℕ → ℕ → ℕ
+early_next at i = at + 6 + 5 * i + 4
+
+abbrev pub last_next : FifoPlaces → ℕ → ℕ
+last_next p at = at + 6 + 5 * (p.depth - 1) + 3
+
+-- the next net of Di is w, and of C is c
+abbrev pub fifo_linked : Plan → FifoPlaces → ℕ → Plan
+fifo_linked plan p at = with_next (with_next (linked plan (place_register p) (early_next at) (p.depth - 1)) (place_register p (p.depth - 1)) (last_next p at)) p.registers (at + 5)
+
+pub record CanLinkFifo (plan : Plan) (p : FifoPlaces) (at : ℕ) : Type 0 where
+  pub early : CanLinkAll plan (place_register p) (early_next at) (p.depth - 1)
+  pub last : IsNextOf plan (place_register p (p.depth - 1)) (last_next p at)
+  pub count : IsNextOf plan p.registers (at + 5)
+
+-- how deep a FIFO may be
+pub record IsDepth (depth : ℕ) : Type 0 where
+  pub some : MIN_DEPTH ≤ depth
+  pub few : depth ≤ MAX_DEPTH
+
+-- the forward and the backward nets of a FIFO may be pushed
+pub record IsFifoFrontReady (plan : Plan) (depth registers : ℕ) : Type 0 where
+  pub good : IsDepth depth
+  pub count : Carries plan registers (count_bits depth)
+
+-- the nets of what it holds next may be pushed
+pub record IsFifoReady (plan : Plan) (p : FifoPlaces) : Type 0 where
+  pub good : IsDepth p.depth
+  pub registers : StandFrom plan.nets p.registers (fifo_registers p.width p.depth)
+  pub valid : Carries plan p.valid 1
+  pub word : Carries plan p.word p.width
+  pub rden : Carries plan p.rden 1
+  pub room : Carries plan (p.backward + 2) 1
+
+-- ---- the law
 
 -- a FIFO stands in a netlist; the next net of C is c, of Di w
 pub record HasFifo (plan : Plan) (s : FifoNets) : Type 0 where

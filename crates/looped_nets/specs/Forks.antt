@@ -1,5 +1,6 @@
 -- The nets of a fork: each word to several branches, each of which has a flag that says whether it has had the word.
-use Rattle.std.specs.Prelude.{◌≡◌, ℕ, zero, suc, ◌+◌, ◌*◌, ◌<◌, false, List, [], ◌∷◌, Some, replicate}
+use Rattle.std.specs.Prelude.{◌≡◌, ℕ, zero, suc, ◌+◌, ◌-◌, ◌*◌, ◌<◌, ◌≤◌, ◌++◌, false, List, [], ◌∷◌, Some, length, replicate, get_or}
+use Rattle.netlist.specs.declared.limits.TheConstants.{MIN_BRANCHES, MAX_BRANCHES}
 use Rattle.netlist.specs.declared.net.Net.{Net}
 use Rattle.netlist.specs.declared.net.Net.TheVariants.{Register, Not, And, Or}
 use Rattle.netlist.specs.Nets.{Bits}
@@ -11,7 +12,8 @@ use Rattle.element_laws.specs.Laws.{Obeys}
 use Rattle.element_wires.specs.Wires.{firsts}
 use Rattle.net_lists.specs.Lists.{StandFrom, Carries}
 use Rattle.net_lists.specs.Runs.{bit_at, carried, IsNetRun}
-use Rattle.looped_nets.specs.Loops.{nets_upto}
+use Rattle.looped_nets.specs.declared.fork.ForkPlaces.{ForkPlaces}
+use Rattle.looped_nets.specs.Loops.{nets_upto, linked}
 
 -- Between which nets a fork of `more` + 2 branches stands, and where its nets do: the valid and the word of its input, the ready of each
 -- branch, its first register, and the first one of its forward, backward and next nets.
@@ -29,8 +31,8 @@ abbrev pub branches : ForkNets → ℕ
 branches s = suc (suc s.more)
 
 -- F0, F1, ..
-abbrev pub fork_registers : ForkNets → List Net
-fork_registers s = nets_upto (λ i. Register (false ∷ []) ∷ []) (branches s)
+abbrev pub fork_registers : ℕ → List Net
+fork_registers count = nets_upto (λ i. Register (false ∷ []) ∷ []) count
 
 -- for each branch: u = Not Fi; ovi = And iv u
 abbrev pub branch_nets : ForkNets → ℕ → List Net
@@ -74,9 +76,76 @@ flag_nets s i = And (s.forward + 2 * i + 1) (s.readies i) ∷ Or (s.registers + 
 abbrev pub fork_flags : ForkNets → List Net
 fork_flags s = nets_upto (flag_nets s) (branches s)
 
+-- ---- the passes
+
+-- A fork between these nets, with these ready nets of its branches, whose nets of what its flags are next stand from a place on.
+abbrev pub fork_of : ForkPlaces → List ℕ → ℕ → ForkNets
+fork_of p readies at = record {
+  more = length readies - 2;
+  valid = p.valid;
+  word = p.word;
+  readies = λ i. get_or readies i 0;
+  registers = p.registers;
+  forward = p.forward;
+  backward = p.backward;
+  next = at;
+}
+
+-- the forward nets of so many branches, from a place on
+abbrev pub fork_front : ℕ → ℕ → ℕ → ℕ → List Net
+fork_front count registers valid at = nets_upto (λ i. Not (registers + i) ∷ And valid (at + 2 * i) ∷ []) count
+
+-- the backward nets
+abbrev pub fork_back : ℕ → List ℕ → ℕ → List Net
+fork_back registers readies at =
+    let s : ForkNets = fork_of (record { valid = 0; word = 0; registers = registers; forward = 0; backward = at }) readies 0 in
+    fork_waits s ++ fork_chain s
+
+-- the nets of what the flags are next
+abbrev pub fork_next : ForkPlaces → List ℕ → ℕ → List Net
+fork_next p readies at = taken_nets (fork_of p readies at) ++ fork_flags (fork_of p readies at)
+
+-- the register of a branch, and its next net
+abbrev pub flag_register : ℕ → ℕ → ℕ
+flag_register registers i = registers + i
+
+abbrev pub flag_next : ℕ → ℕ → ℕ
+flag_next at i = at + 2 + 3 * i + 2
+
+abbrev pub fork_linked : Plan → ℕ → ℕ → ℕ → Plan
+fork_linked plan registers at count = linked plan (flag_register registers) (flag_next at) count
+
+-- how many branches a fork may have
+pub record AreBranches (count : ℕ) : Type 0 where
+  pub some : MIN_BRANCHES ≤ count
+  pub few : count ≤ MAX_BRANCHES
+
+-- the forward nets of a fork may be pushed
+pub record IsForkFrontReady (plan : Plan) (count registers valid : ℕ) : Type 0 where
+  pub branches : AreBranches count
+  pub flags : (i : ℕ) → i < count → Carries plan (registers + i) 1
+  pub valid_bit : Carries plan valid 1
+
+-- the backward nets of a fork may be pushed
+pub record IsForkBackReady (plan : Plan) (registers : ℕ) (readies : List ℕ) : Type 0 where
+  pub branches : AreBranches (length readies)
+  pub flags : (i : ℕ) → i < length readies → Carries plan (registers + i) 1
+  pub ready_bits : (i : ℕ) → i < length readies → Carries plan (get_or readies i 0) 1
+
+-- the nets of what its flags are next may be pushed
+pub record IsForkReady (plan : Plan) (p : ForkPlaces) (readies : List ℕ) : Type 0 where
+  pub branches : AreBranches (length readies)
+  pub registers : StandFrom plan.nets p.registers (fork_registers (length readies))
+  pub valid : Carries plan p.valid 1
+  pub offers : (i : ℕ) → i < length readies → Carries plan (p.forward + 2 * i + 1) 1
+  pub room : Carries plan (fork_ready (fork_of p readies 0)) 1
+  pub ready_bits : (i : ℕ) → i < length readies → Carries plan (get_or readies i 0) 1
+
+-- ---- the law
+
 -- a fork stands in a netlist; the next net of Fi is f
 pub record HasFork (plan : Plan) (s : ForkNets) : Type 0 where
-  pub registers : StandFrom plan.nets s.registers (fork_registers s)
+  pub registers : StandFrom plan.nets s.registers (fork_registers (branches s))
   pub front : StandFrom plan.nets s.forward (fork_forward s)
   pub waits : StandFrom plan.nets s.backward (fork_waits s)
   pub links : StandFrom plan.nets (s.backward + branches s) (fork_chain s)

@@ -1,6 +1,11 @@
 pub mod Loops
+pub mod LoopFits
 pub mod Forks
 pub mod ForkLemmas
+pub mod ForkFits
 pub mod Counts
 pub mod Fifos
 pub mod FifoLemmas
+pub mod CountBits
+pub mod FifoFits
+pub mod Examples

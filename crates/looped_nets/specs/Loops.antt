@@ -3,6 +3,7 @@ use Rattle.std.specs.Prelude.{◌≡◌, ℕ, zero, suc, ◌+◌, ◌<◌, List,
 use Rattle.std.proofs.Common.{◌∙◌, ap, subst, arith, inl, inr, length-append, get_or}
 use Rattle.std.proofs.lemmas.Bool.{cases_lt}
 use Rattle.netlist.specs.declared.net.Net.{Net}
+use Rattle.netlist.specs.Plans.{Plan, with_next, IsNextOf}
 use Rattle.net_lists.specs.Lists.{StandFrom}
 use Rattle.net_lists.specs.ListLaws.{stand_front, stand_behind}
 use Rattle.element_wires.specs.Wires.{firsts}
@@ -11,6 +12,15 @@ use Rattle.element_wires.specs.Wires.{firsts}
 abbrev pub nets_upto : (ℕ → List Net) → ℕ → List Net
 nets_upto turn zero = []
 nets_upto turn (suc n) = nets_upto turn n ++ turn n
+
+-- the netlist with the next nets of so many registers set
+abbrev pub linked : Plan → (ℕ → ℕ) → (ℕ → ℕ) → ℕ → Plan
+linked plan register next zero = plan
+linked plan register next (suc n) = with_next (linked plan register next n) (register n) (next n)
+
+-- each of the registers may take its words from its next net
+pub record CanLinkAll (plan : Plan) (register next : ℕ → ℕ) (n : ℕ) : Type 0 where
+  pub each : (i : ℕ) → i < n → IsNextOf plan (register i) (next i)
 
 -- where each turn's nets begin
 pub record ArePlaces (turn : ℕ → List Net) (place : ℕ → ℕ) : Type 0 where
