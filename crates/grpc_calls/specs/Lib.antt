@@ -1,8 +1,16 @@
 pub mod Answers
+pub mod CallRules
 pub mod Calls
+pub mod ClassLaws
+pub mod Classes
 pub mod Examples
+pub mod Fields
 pub mod Front
+pub mod Listings
 pub mod Messages
+pub mod Procedures
+pub mod Replies
+pub mod ReplyLaws
 pub mod Streams
 pub mod FrontLaws
 pub mod AnswerLaws

@@ -11,6 +11,15 @@ pub(crate) const PREFIX_OCTETS: usize = 5;
 
 const _: () = prove!(PREFIX_OCTETS == 5);
 
+/// The flag of a message that is not compressed, and that of one that is; there is no other.
+pub(crate) const NOT_COMPRESSED: u8 = 0;
+
+const _: () = prove!(NOT_COMPRESSED == 0);
+
+pub(crate) const COMPRESSED: u8 = 1;
+
+const _: () = prove!(COMPRESSED == 1);
+
 /// What stands first in octets of a stream.
 #[derive(Clone, Copy, Debug, PartialEq, Eq)]
 pub(crate) enum Front {
@@ -32,7 +41,7 @@ pub(crate) fn read_front(limit: u32, octets: &[u8]) -> Front
     let [flag, a, b, c, d, rest @ ..] = octets else {
         return Front::Unfinished;
     };
-    if *flag != 0 {
+    if *flag != NOT_COMPRESSED {
         return Front::Compressed;
     }
     let count = u32::from_be_bytes([*a, *b, *c, *d]);
@@ -56,7 +65,7 @@ pub fn prefixed(message: &[u8], out: &mut Octets) -> Result<(), NoMemory>
 {
     let before = out.len();
     let [a, b, c, d] = (message.len() as u32).to_be_bytes();
-    out.push_all(&[0, a, b, c, d])?;
+    out.push_all(&[NOT_COMPRESSED, a, b, c, d])?;
     if out.push_all(message).is_err() {
         out.truncate(before);
         return Err(NoMemory);
