@@ -22,23 +22,27 @@ struct Session {
     alloc: Global,
     conn: Conn,
     single: bool,
+    shown: usize,
     next: u32,
     events: u64,
     log: String,
 }
 
-/// What happens where these words are done with an end; None where one is no word.
+/// What happens where these words are done with an end; None where one is no word. Octets are fed one by one where
+/// `single` says so, and so many octets of output are shown whole.
 pub fn answer(
     alloc: Global,
     conn: Conn,
     server: bool,
     words: &str,
     single: bool,
+    shown: usize,
 ) -> Result<Option<String>, AllocError> {
     let mut session = Session {
         alloc,
         conn,
         single,
+        shown,
         next: 1,
         events: 0,
         log: String::new(alloc),
@@ -160,7 +164,7 @@ impl Session {
 
     /// Reports how many octets the output has, and which.
     fn report_output(&mut self) -> Result<(), AllocError> {
-        let output = text::of_output(self.alloc, self.conn.output())?;
+        let output = text::of_output(self.alloc, self.conn.output(), self.shown)?;
         self.log.push_str(output.as_str())
     }
 

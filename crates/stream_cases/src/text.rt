@@ -5,7 +5,7 @@ use hpack::Headers;
 use std::alloc::{AllocError, Global};
 
 /// How many octets are printed whole.
-const SHOWN: usize = 64;
+pub const SHOWN: usize = 64;
 
 /// How many are printed of more.
 const LAST: usize = 17;
@@ -66,11 +66,15 @@ fn push_ascii(text: &mut String, octets: &[u8], alloc: Global) -> Result<(), All
     Ok(())
 }
 
-/// How many octets there are, and which; of many the last ones.
-pub fn of_output(alloc: Global, octets: &[u8]) -> Result<String, AllocError> {
+/// How many octets there are, and which; of more than are shown whole the last ones.
+pub fn of_output(alloc: Global, octets: &[u8], shown: usize) -> Result<String, AllocError> {
     let count = octets.len();
     let mut text = format!(in alloc; "output {count}")?;
-    let from = if count <= SHOWN { 0 } else { count - LAST };
+    let from = if count <= shown {
+        0
+    } else {
+        count.saturating_sub(LAST)
+    };
     text.push_str(if from == 0 { " " } else { " .. " })?;
     for octet in &octets[from..] {
         let digits = format!(in alloc; "{octet:02x}")?;
