@@ -1,2 +1,3 @@
 pub mod Passes
 pub mod PassLemmas
+pub mod GoodParts
