@@ -79,12 +79,12 @@ if_same asked width false e h = absurd (cc)
 same_width : (asked width : ℕ) → IsSome (only_width asked (Some width)) → width ≡ asked
 same_width asked width h = if_same asked width (width == asked) refl h
 
-one_width : (widths : List ℕ) → length widths ≡ 1 → widths ≡ get_or widths 0 0 ∷ []
+pub one_width : (widths : List ℕ) → length widths ≡ 1 → widths ≡ get_or widths 0 0 ∷ []
 one_width [] e = absurd (omega (arith, e))
 one_width (a ∷ []) e = refl
 one_width (a ∷ b ∷ rest) e = absurd (omega (arith, e))
 
-two_widths : (widths : List ℕ) → length widths ≡ 2 → widths ≡ get_or widths 0 0 ∷ get_or widths 1 0 ∷ []
+pub two_widths : (widths : List ℕ) → length widths ≡ 2 → widths ≡ get_or widths 0 0 ∷ get_or widths 1 0 ∷ []
 two_widths [] e = absurd (omega (arith, e))
 two_widths (a ∷ []) e = absurd (omega (arith, e))
 two_widths (a ∷ b ∷ []) e = refl
@@ -131,7 +131,7 @@ count_ready plan width depth registers kept good stand =
       count = register_carries plan registers (count_bits depth) (replicate (count_bits depth) false) kept (stand_first plan.nets registers _ _ stand) wide;
     }
 
-flag_carries : (plan : Plan) (branches registers i : ℕ) → IsPlan plan → StandFrom plan.nets registers (fork_registers branches) → i < branches → Carries plan (registers + i) 1
+pub flag_carries : (plan : Plan) (branches registers i : ℕ) → IsPlan plan → StandFrom plan.nets registers (fork_registers branches) → i < branches → Carries plan (registers + i) 1
 flag_carries plan branches registers i kept stand lt =
     let stands : Stands plan.nets (registers + i) (Register (false ∷ [])) =
     stand_first plan.nets (registers + i) _ _
