@@ -1,0 +1,15 @@
+use Rattle.part_nets.specs.GoodParts.{good_parts_do_go_forward, good_parts_do_go_back, good_parts_do_go_on}
+use Rattle.part_nets.specs.Outputs.{good_parts_do_give}
+use Rattle.part_nets.proofs.laws.good_parts_go.Goals as goal
+
+pub returns-clause-forward : goal.returns-clause-forward
+returns-clause-forward c = good_parts_do_go_forward
+
+pub returns-clause-back : goal.returns-clause-back
+returns-clause-back c = good_parts_do_go_back
+
+pub returns-clause-on : goal.returns-clause-on
+returns-clause-on c = good_parts_do_go_on
+
+pub returns-clause-give : goal.returns-clause-give
+returns-clause-give c = good_parts_do_give

@@ -1,0 +1,4 @@
+pub mod Passes
+pub mod PassLemmas
+pub mod GoodParts
+pub mod Outputs
