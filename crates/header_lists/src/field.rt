@@ -1,7 +1,8 @@
 //! Header fields, one at a time (RFC 9113, sections 8.2 and 8.3).
-ghost use Rattle.std.specs.Prelude.{◌≡◌};
+ghost use Rattle.std.specs.Prelude.{◌≡◌, ◌∷◌};
 ghost use Rattle.header_lists.specs.Fields.{is_named, is_bad_in_name, is_bad_name, is_bad_in_value, is_colon, is_connection_field, is_bad_te, is_bad_field, is_pseudo, is_request_pseudo, is_reply_pseudo};
 ghost use Rattle.std.specs.List.{list_any};
+ghost use Rattle.header_lists.specs.Scans.{is_bad_behind_first};
 
 use hpack::Header;
 
@@ -19,36 +20,90 @@ fn is_bad_in_name(octet: u8) -> bool
     octet <= b' ' || octet.is_ascii_uppercase() || octet >= 0x7f
 }
 
+/// Whether an octet stands in no name behind its first octet: it stands in none, or is a colon. Most are
+/// lower-case letters, so these come first.
+fn is_bad_behind_first(octet: u8) -> bool
+    ensures { result ≡ is_bad_behind_first octet }
+{
+    !octet.is_ascii_lowercase() && (is_bad_in_name(octet) || octet == b':')
+}
+
 /// Whether no field has the name: it is empty, has an octet that stands in none, or a colon that is not
 /// its first octet.
 fn is_bad_name(name: &[u8]) -> bool
     ensures { result ≡ is_bad_name name.now }
 {
-    let [_, others @ ..] = name else {
+    let [first, others @ ..] = name else {
         return true;
     };
-    has_bad_octet(name) || has_colon(others)
+    is_bad_name_of(*first, others)
 }
 
-fn has_bad_octet(name: &[u8]) -> bool
-    ensures { result ≡ list_any is_bad_in_name name.now }
+/// The same of a name with this first octet, and these behind it.
+fn is_bad_name_of(first: u8, others: &[u8]) -> bool
+    ensures { result ≡ is_bad_name (first ∷ others.now) }
 {
-    name.iter().any(|octet| is_bad_in_name(*octet))
+    if is_bad_in_name(first) {
+        return true;
+    }
+    has_bad_behind_first(others)
 }
 
-fn has_colon(octets: &[u8]) -> bool
-    ensures { result ≡ list_any is_colon octets.now }
+/// Whether some octet stands in no name behind the first one. It looks at four at a time.
+fn has_bad_behind_first(octets: &[u8]) -> bool
+    ensures { result ≡ list_any is_bad_behind_first octets.now }
 {
-    octets.iter().any(|octet| *octet == b':')
+    let mut rest = octets;
+    while let [a, b, c, d, others @ ..] = rest {
+        if is_bad_behind_first(*a)
+            || is_bad_behind_first(*b)
+            || is_bad_behind_first(*c)
+            || is_bad_behind_first(*d)
+        {
+            return true;
+        }
+        rest = others;
+    }
+    has_bad_among_few(rest)
 }
 
-/// Whether no field has the value: it has NUL, LF or CR.
+/// The same, octet by octet.
+fn has_bad_among_few(octets: &[u8]) -> bool
+    ensures { result ≡ list_any is_bad_behind_first octets.now }
+{
+    octets.iter().any(|octet| is_bad_behind_first(*octet))
+}
+
+/// Whether an octet stands in no value: NUL, LF or CR. Most are greater than all three.
+fn is_bad_in_value(octet: u8) -> bool
+    ensures { result ≡ is_bad_in_value octet }
+{
+    octet <= b'\r' && (octet == 0 || octet == b'\n' || octet == b'\r')
+}
+
+/// Whether no field has the value: it has NUL, LF or CR. It looks at four octets at a time.
 fn is_bad_value(value: &[u8]) -> bool
     ensures { result ≡ list_any is_bad_in_value value.now }
 {
-    value
-        .iter()
-        .any(|octet| *octet == 0 || *octet == b'\n' || *octet == b'\r')
+    let mut rest = value;
+    while let [a, b, c, d, others @ ..] = rest {
+        if is_bad_in_value(*a)
+            || is_bad_in_value(*b)
+            || is_bad_in_value(*c)
+            || is_bad_in_value(*d)
+        {
+            return true;
+        }
+        rest = others;
+    }
+    is_bad_short_value(rest)
+}
+
+/// The same, octet by octet.
+fn is_bad_short_value(value: &[u8]) -> bool
+    ensures { result ≡ list_any is_bad_in_value value.now }
+{
+    value.iter().any(|octet| is_bad_in_value(*octet))
 }
 
 /// Whether the field speaks of the connection (section 8.2.2).
