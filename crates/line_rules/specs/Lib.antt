@@ -1,0 +1,4 @@
+pub mod LineTests
+pub mod RuleLaws
+pub mod TextRules
+pub mod Shapes

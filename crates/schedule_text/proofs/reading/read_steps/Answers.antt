@@ -1,0 +1,27 @@
+use Rattle.std.proofs.Common.{◌≡◌, ◌∙◌, ◌+◌, ◌≤◌, ◌++◌, ◌∷◌, [], sym, ap, arith, length}
+use Rattle.std.specs.List.{sum_by}
+use Rattle.std.proofs.lemmas.Grind.{common_steps}
+use Rattle.std.proofs.lemmas.List.Sums.{sum_by-append}
+use Rattle.std.proofs.lemmas.Result.{err_from_is_err_and}
+use Rattle.line_rules.specs.RuleLaws.{next_line, last_line, stopped_line}
+use Rattle.schedule_text.specs.ScheduleLines.{rounds_of, schedule_rules}
+use Rattle.schedule_text.proofs.LineJudged.{line_judged, line_stopped}
+use Rattle.schedule_text.proofs.reading.read_steps.Goals as goal
+
+pub returns-in_err-step : goal.returns-in_err-step
+returns-in_err-step c =
+    let p = err_from_is_err_and c.from_residual.result c.from_residual.ensures.1 in
+    rw (p.1, p.2) (stopped_line schedule_rules c.loop-line.steps c.in-Some.line c.loop-line.lines c.next_line.new.self c.in_err-step.field-0.0 _ c.in-Some.ensures.next (line_stopped c.loop-line.steps c.loop-line.rounds c.len.result c.in-Some.line c.in_err-step.field-0.0 c.loop-line.invariant.1 c.len.ensures c.in_err-step.ensures.reads) c.loop-line.invariant.0)
+
+pub loop-line-preserved : goal.loop-line-preserved
+loop-line-preserved c =
+    let pushed : c.add.new.self ≡ c.loop-line.steps ++ c.in_ok-step.step ∷ [] = grind (arith, common_steps) in
+    let more : c.from-rounds.result ≡ rounds_of c.in_ok-step.step = grind (arith, common_steps) in
+    let sums : sum_by rounds_of (c.loop-line.steps ++ c.in_ok-step.step ∷ []) ≡ sum_by rounds_of c.loop-line.steps + rounds_of c.in_ok-step.step = omega (arith, sum_by-append rounds_of c.loop-line.steps (c.in_ok-step.step ∷ [])) in (
+      rw pushed (next_line schedule_rules c.loop-line.steps c.in-Some.line c.loop-line.lines c.next_line.new.self c.in_ok-step.step _ c.in-Some.ensures.next (line_judged c.loop-line.steps c.loop-line.rounds c.len.result c.in-Some.line c.in_ok-step.step c.loop-line.invariant.1 c.len.ensures c.in_ok-step.ensures.reads) c.loop-line.invariant.0),
+      rw pushed (omega (arith, sums, more, c.loop-line.invariant.1)),
+      omega (arith, more, c.in_ok-step.ensures.within),
+    )
+
+pub returns : goal.returns
+returns c = last_line schedule_rules c.loop-line.steps c.loop-line.lines _ c.in_default.ensures.next c.loop-line.invariant.0
