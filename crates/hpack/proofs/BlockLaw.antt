@@ -1,5 +1,5 @@
 -- Header blocks are read exactly, up to the size of the list.
-use Rattle.std.proofs.Common.{◌≡◌, ℕ, zero, suc, ◌+◌, ◌<◌, ◌≤◌, List, [], ◌∷◌, ◌++◌, length, inl, inr, Ok, Err, refl, ap, sym, ◌∙◌, subst, arith}
+use Rattle.std.proofs.Common.{◌≡◌, ℕ, zero, suc, ◌<◌, ◌≤◌, List, [], ◌∷◌, ◌++◌, length, inl, inr, Ok, Err, refl, ap, sym, ◌∙◌, subst, arith}
 use Rattle.hpack.specs.declared.limits.TheConstants.{MAX_HEADER_LIST_SIZE, WITH_INDEXING_BITS, WITHOUT_INDEXING_BITS}
 use Rattle.hpack.specs.declared.stop.BlockRule.{BlockRule}
 use Rattle.std.proofs.lemmas.List.{append_assoc, length-append}

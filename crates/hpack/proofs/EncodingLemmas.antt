@@ -6,6 +6,7 @@ use Rattle.std.proofs.Math.Nat.{pow-succ'}
 use Rattle.hpack.specs.Integers.{full_prefix}
 use Rattle.hpack.specs.Encoding.{groups_of, integer_of}
 use Rattle.hpack.specs.Extends.{Extends}
+use Rattle.hpack.specs.Indexing.{marked, integer_with}
 
 pub extends_none : (old new : List ℕ) → new ≡ old → Extends old new
 extends_none old new same = record { more = []; whole = same ∙ sym (append-nil old) }
@@ -77,3 +78,8 @@ integer_long bits n high = cond-false _ _ _ (le-ltb n (full_prefix bits) high)
 pub long_written : (old now new : List ℕ) (bits n : ℕ) → full_prefix bits ≤ n → now ≡ old ++ full_prefix bits ∷ [] → new ≡ now ++ groups_of 4 (n - full_prefix bits) → new ≡ old ++ integer_of bits n
 long_written old now new bits n high first groups =
     groups ∙ ap (λ o. o ++ groups_of 4 (n - full_prefix bits)) first ∙ append_assoc old (full_prefix bits ∷ []) (groups_of 4 (n - full_prefix bits)) ∙ ap (λ o. old ++ o) (sym (integer_long bits n high))
+
+-- the same below a mark
+pub long_marked : (old now new : List ℕ) (mark bits n : ℕ) → full_prefix bits ≤ n → now ≡ old ++ (mark + full_prefix bits) ∷ [] → new ≡ now ++ groups_of 4 (n - full_prefix bits) → new ≡ old ++ integer_with mark bits n
+long_marked old now new mark bits n high first groups =
+    groups ∙ ap (λ o. o ++ groups_of 4 (n - full_prefix bits)) first ∙ append_assoc old ((mark + full_prefix bits) ∷ []) (groups_of 4 (n - full_prefix bits)) ∙ ap (λ o. old ++ marked mark o) (sym (integer_long bits n high))

@@ -1,5 +1,5 @@
 -- Representations are read exactly, up to the size of the list.
-use Rattle.std.proofs.Common.{◌≡◌, ℕ, ◌+◌, ◌-◌, ◌<◌, ◌≤◌, true, false, List, [], ◌∷◌, ◌++◌, ◌⊎◌, inl, inr, Result, Ok, Err, refl, ap, sym, ◌∙◌, subst, arith}
+use Rattle.std.proofs.Common.{◌≡◌, ℕ, ◌+◌, ◌<◌, ◌≤◌, true, false, List, [], ◌∷◌, ◌++◌, ◌⊎◌, inl, inr, Result, Ok, Err, refl, ap, sym, ◌∙◌, subst, arith}
 use Rattle.hpack.specs.declared.limits.TheConstants.{MAX_HEADER_LIST_SIZE, MAX_TABLE_SIZE, WITH_INDEXING_BITS, WITHOUT_INDEXING_BITS, SIZE_UPDATE_BITS}
 use Rattle.hpack.specs.declared.stop.BlockRule.{BlockRule}
 use Rattle.hpack.specs.declared.stop.BlockRule.TheVariants.{WrongSizeUpdate, ListTooLarge}

@@ -2,6 +2,8 @@ mod BlockLaw
 mod DecoderLaw
 mod EncodingLemmas
 mod FieldLaw
+mod IndexLaws
+mod IndexedBack
 mod IntegerLaw
 mod IntegerLoop
 mod LawProofs

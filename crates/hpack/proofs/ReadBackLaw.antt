@@ -22,10 +22,10 @@ grown : (octet : ℕ) (octets : List ℕ) → 128 ≤ octet → IsGroup octets �
 grown octet [] on group = absurd group
 grown octet (next ∷ octets) on group = (on, group)
 
-record AreGroups (count n : ℕ) (octets : List ℕ) : Type 0 where
-  group : IsGroup octets
-  few : length octets ≤ count + 1
-  value : digits octets ≡ n
+pub record AreGroups (count n : ℕ) (octets : List ℕ) : Type 0 where
+  pub group : IsGroup octets
+  pub few : length octets ≤ count + 1
+  pub value : digits octets ≡ n
 
 low_seven : (n : ℕ) → (128 + n % 128) % 128 ≡ n % 128
 low_seven n = omega arith
@@ -33,7 +33,7 @@ low_seven n = omega arith
 last_group : (count n : ℕ) → n < 128 → AreGroups count n (n ∷ [])
 last_group count n low = let same = mod-eq_of_lt low in record { group = low; few = omega arith; value = omega arith }
 
-groups_are : (count n : ℕ) → n < 128 ^ (count + 1) → AreGroups count n (groups_of count n)
+pub groups_are : (count n : ℕ) → n < 128 ^ (count + 1) → AreGroups count n (groups_of count n)
 unfolding groups_of
 groups_are zero n low = last_group 0 n low
 groups_are (suc count) n low = elim (cases_lt n 128) [
@@ -74,7 +74,7 @@ not_coded n = elim (cases_lt n (full_prefix STRING_BITS)) [
   | inr long ↦ sym (ap first_bit (integer_long STRING_BITS n long))
 ]
 
-string_back : (text : List ℕ) → length text < INTEGER_VALUES → IsString (string_of text) text
+pub string_back : (text : List ℕ) → length text < INTEGER_VALUES → IsString (string_of text) text
 unfolding string_of
 string_back text low = record {
   front = integer_of STRING_BITS (length text);

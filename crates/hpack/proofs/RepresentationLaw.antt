@@ -1,5 +1,5 @@
 -- Representations are read exactly.
-use Rattle.std.proofs.Common.{◌≡◌, ℕ, zero, suc, ◌+◌, ◌-◌, ◌<◌, List, [], ◌++◌, ◌⊎◌, inl, inr, Option, Some, None, Result, Ok, Err, refl, ap, sym, ◌∙◌, subst, arith, nat_eq}
+use Rattle.std.proofs.Common.{◌≡◌, ℕ, zero, suc, ◌<◌, List, [], ◌++◌, ◌⊎◌, inl, inr, Option, Some, None, Result, Ok, Err, refl, ap, sym, ◌∙◌, subst, arith, nat_eq}
 use Rattle.hpack.specs.declared.limits.TheConstants.{INDEXED_BITS}
 use Rattle.hpack.specs.declared.stop.BlockRule.{BlockRule}
 use Rattle.hpack.specs.declared.stop.BlockRule.TheVariants.{NoSuchEntry}

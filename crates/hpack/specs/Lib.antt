@@ -4,6 +4,7 @@ pub mod Decoding
 pub mod Encoding
 pub mod Examples
 pub mod Extends
+pub mod Indexing
 pub mod IntegerReading
 pub mod Integers
 pub mod Laws
@@ -11,6 +12,7 @@ pub mod Readers
 pub mod RepresentationReading
 pub mod Representations
 pub mod Rules
+pub mod Sought
 pub mod StaticPieces
 pub mod StaticTable
 pub mod StringReading

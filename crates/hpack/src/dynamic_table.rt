@@ -1,10 +1,13 @@
 //! The dynamic table (RFC 7541, sections 2.3.2 and 4).
-ghost use Rattle.std.specs.Prelude.{◌≡◌, ◌<◌, ◌≤◌, ◌+◌, OnOk, slice_get};
+ghost use Rattle.std.specs.Prelude.{◌≡◌, ◌<◌, ◌≤◌, ◌+◌, IfOk, OnOk, length, slice_get};
 ghost use Rattle.std.specs.Option.{option_copied};
+ghost use Rattle.hpack.specs.Indexing.{first_index, joins};
+ghost use Rattle.hpack.specs.Sought.{passes};
 ghost use Rattle.hpack.specs.Tables.{size_of, list_size, fitting, table_with, table_limited, new_table};
 
 use crate::header::Header;
-use crate::limits::{MAX_HEADER_LIST_SIZE, MAX_TABLE_SIZE};
+use crate::limits::{MAX_HEADER_LIST_SIZE, MAX_TABLE_SIZE, STATIC_ENTRIES};
+use crate::sought::Sought;
 use esi_base::NoMemory;
 use std::alloc::Global;
 use std::collections::VecDeque;
@@ -48,6 +51,56 @@ impl DynamicTable {
         self.entries.get(at)
     }
 
+    /// The least index of an entry that has what is sought, after those of the static table.
+    pub(crate) fn index_of(&self, sought: Sought, header: &Header) -> Option<u32>
+        ensures { result ≡ first_index (passes sought header.now) (STATIC_ENTRIES + 1) self.now.entries }
+    {
+        for at in 0..self.count() {
+            let Some(entry) = self.get(at) else {
+                return None;
+            };
+            if sought.is_in(header, entry.name.as_slice(), entry.value.as_slice()) {
+                return Some((STATIC_ENTRIES + 1 + at) as u32);
+            }
+        }
+        None
+    }
+
+    /// How many entries there are: each counts for its size.
+    #[tactic(auto, using(crate::proofs::IndexLaws::few_entries))]
+    fn count(&self) -> usize
+        ensures all { result ≡ length self.now.entries }
+        ensures small { result ≤ MAX_TABLE_SIZE }
+    {
+        self.entries.len()
+    }
+
+    /// The maximum size.
+    pub(crate) fn limit(&self) -> usize
+        ensures { result ≡ self.now.limit }
+    {
+        self.limit
+    }
+
+    /// A copy of the table.
+    pub(crate) fn copied(&self, alloc: Global) -> Result<DynamicTable, NoMemory>
+        ensures { IfOk result (λ table. table ≡ self.now) }
+    {
+        Ok(DynamicTable {
+            entries: copy_of(alloc, &self.entries)?,
+            size: self.size,
+            limit: self.limit,
+        })
+    }
+
+    /// Whether an entry for the header fits into the table, which is then emptied for it as far as need
+    /// be.
+    pub(crate) fn takes(&self, header: &Header) -> bool
+        ensures { result ≡ joins self.now header.now }
+    {
+        header.fits(self.limit)
+    }
+
     /// Adds an entry and evicts the oldest ones (RFC 7541, section 4.4).
     pub(crate) fn insert(&mut self, header: Header) -> Result<(), NoMemory>
         requires { size_of header ≤ MAX_HEADER_LIST_SIZE }
@@ -84,4 +137,17 @@ fn evict(entries: &mut VecDeque<Header>, before: usize, limit: usize) -> usize
         size -= oldest.size();
     }
     size
+}
+
+/// A copy of the entries.
+fn copy_of(alloc: Global, entries: &VecDeque<Header>) -> Result<VecDeque<Header>, NoMemory>
+    ensures { IfOk result (λ copy. copy.items ≡ entries.now.items) }
+{
+    let mut copy = VecDeque::new(alloc);
+    for at in 0..entries.len() {
+        if let Some(entry) = entries.get(at) {
+            copy.push_back(entry.copied(alloc)?)?;
+        }
+    }
+    Ok(copy)
 }

@@ -116,7 +116,7 @@ fn write_field(header: &Header, out: &mut Octets) -> Result<(), NoMemory>
 
 /// A string as it is (RFC 7541, section 5.2).
 #[tactic(auto, unfolding(crate::specs::Encoding::string_of))]
-fn write_string(text: &[u8], out: &mut Octets) -> Result<(), NoMemory>
+pub(crate) fn write_string(text: &[u8], out: &mut Octets) -> Result<(), NoMemory>
     requires { length text.now < 2 ^ 32 }
     ensures written { OnOk result (out.new ≡ out.old ++ string_of text.now) }
     ensures extends { OnErr result (Extends out.old out.new) }
@@ -141,7 +141,7 @@ fn write_integer(bits: u32, n: u32, out: &mut Octets) -> Result<(), NoMemory>
 }
 
 /// Seven bits an octet, the least significant first.
-fn write_groups(n: u32, out: &mut Octets) -> Result<(), NoMemory>
+pub(crate) fn write_groups(n: u32, out: &mut Octets) -> Result<(), NoMemory>
     ensures written { OnOk result (out.new ≡ out.old ++ groups_of 4 n) }
     ensures extends { OnErr result (Extends out.old out.new) }
 {
@@ -155,7 +155,7 @@ fn write_groups(n: u32, out: &mut Octets) -> Result<(), NoMemory>
     write_octet(rest as u8, out)
 }
 
-fn write_octet(octet: u8, out: &mut Octets) -> Result<(), NoMemory>
+pub(crate) fn write_octet(octet: u8, out: &mut Octets) -> Result<(), NoMemory>
     ensures written { OnOk result (out.new ≡ out.old ++ octet ∷ []) }
     ensures extends { OnErr result (out.new ≡ out.old) }
 {

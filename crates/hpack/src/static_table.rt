@@ -43,7 +43,7 @@ pub(crate) fn static_entry(alloc: Global, at: usize) -> Result<Header, NoMemory>
 }
 
 /// A piece of the text: the name of an entry at twice its index, and after it its value.
-fn piece(at: usize) -> &'static [u8]
+pub(crate) fn piece(at: usize) -> &'static [u8]
     requires { at < 122 }
     ensures { result.now ≡ piece at }
 {

@@ -55,7 +55,7 @@ fn block_text(
 }
 
 /// Headers of names and values, one after another; None where the text is none.
-fn headers_of(alloc: Global, text: &str) -> Result<Option<Headers>, NoMemory> {
+pub fn headers_of(alloc: Global, text: &str) -> Result<Option<Headers>, NoMemory> {
     let Some(parts) = octets::items_of(alloc, text)? else {
         return Ok(None);
     };
@@ -95,7 +95,7 @@ pub fn write(encoder: &mut Encoder, headers: &Headers, out: &mut Octets) -> Resu
 }
 
 /// Whether the size of headers is small enough.
-fn is_small(headers: &[Header]) -> bool
+pub fn is_small(headers: &[Header]) -> bool
     ensures { IsTrue result → list_size headers.now ≤ MAX_HEADER_LIST_SIZE }
 {
     let mut room = MAX_HEADER_LIST_SIZE;

@@ -1,0 +1,184 @@
+//! Fields with indices and the Huffman code, as an encoder writes them.
+ghost use Rattle.std.specs.Prelude.{◌≡◌, ◌<◌, ◌≤◌, ◌^◌, ◌+◌, ◌++◌, None, Option, ℕ, length, OnOk, OnErr};
+ghost use Rattle.hpack_huffman.specs.Encoding.{encoded};
+ghost use Rattle.hpack.specs.Tables.{size_of, list_size};
+ghost use Rattle.hpack.specs.Extends.{Extends};
+ghost use Rattle.hpack.specs.declared.limits.TheConstants.{MAX_TABLE_SIZE};
+ghost use Rattle.hpack.specs.Integers.{full_prefix};
+ghost use Rattle.hpack.specs.Indexing.{integer_with, text_of, literal, new_field, indexed_field, table_with_field, table_joined, indexed_fields, table_with_fields, size_update, table_sized};
+
+use crate::dynamic_table::DynamicTable;
+use crate::encoder::{write_groups, write_octet, write_string};
+use crate::header::Header;
+use crate::integer::full_prefix;
+use crate::limits::{
+    CODED_MARK, INDEXED_BITS, INDEXED_MARK, MAX_HEADER_LIST_SIZE, SIZE_UPDATE_BITS,
+    SIZE_UPDATE_MARK, STRING_BITS, WITH_INDEXING_BITS, WITH_INDEXING_MARK, WITHOUT_INDEXING_BITS,
+    WITHOUT_INDEXING_MARK,
+};
+use crate::sought::{Sought, index_of};
+use esi_base::{NoMemory, Octets};
+use hpack_huffman::{huff_encode, huff_len};
+use std::alloc::Global;
+
+/// An integer in a prefix of so many bits, below a mark (RFC 7541, section 5.1).
+pub(crate) fn write_marked(mark: u8, bits: u32, n: u32, out: &mut Octets) -> Result<(), NoMemory>
+    requires narrow { bits < 8 }
+    requires room { mark + full_prefix bits < 2 ^ 8 }
+    ensures written { OnOk result (out.new ≡ out.old ++ integer_with mark bits n) }
+    ensures extends { OnErr result (Extends out.old out.new) }
+{
+    let full = full_prefix(bits);
+    if n < u32::from(full) {
+        return write_octet(mark + n as u8, out);
+    }
+    write_octet(mark + full, out)?;
+    write_groups(n - u32::from(full), out)
+}
+
+/// A string, Huffman coded where that takes fewer octets (section 5.2).
+pub(crate) fn write_text(text: &[u8], out: &mut Octets) -> Result<(), NoMemory>
+    requires { length text.now < 2 ^ 32 }
+    ensures written { OnOk result (out.new ≡ out.old ++ text_of text.now) }
+    ensures extends { OnErr result (Extends out.old out.new) }
+{
+    let count = huff_len(text);
+    if count < text.len() {
+        write_coded(count as u32, text, out)
+    } else {
+        write_string(text, out)
+    }
+}
+
+/// The code of a text, after its length.
+fn write_coded(count: u32, text: &[u8], out: &mut Octets) -> Result<(), NoMemory>
+    requires { count ≡ length (encoded text.now) }
+    ensures written { OnOk result (out.new
+        ≡ out.old ++ (integer_with CODED_MARK STRING_BITS (length (encoded text.now)) ++ encoded text.now)) }
+    ensures extends { OnErr result (Extends out.old out.new) }
+{
+    write_marked(CODED_MARK, STRING_BITS, count, out)?;
+    huff_encode(text, out)
+}
+
+/// A literal whose name has an index, or none (section 6.2).
+fn write_literal(
+    mark: u8,
+    bits: u32,
+    index: Option<u32>,
+    header: &Header,
+    out: &mut Octets,
+) -> Result<(), NoMemory>
+    requires narrow { bits < 8 }
+    requires room { mark + full_prefix bits < 2 ^ 8 }
+    requires small { size_of header.now ≤ MAX_HEADER_LIST_SIZE }
+    ensures written { OnOk result (out.new ≡ out.old ++ literal mark bits index header.now) }
+    ensures extends { OnErr result (Extends out.old out.new) }
+{
+    match index {
+        Some(index) => {
+            write_marked(mark, bits, index, out)?;
+            write_text(header.value.as_slice(), out)
+        }
+        None => {
+            write_marked(mark, bits, 0, out)?;
+            write_text(header.name.as_slice(), out)?;
+            write_text(header.value.as_slice(), out)
+        }
+    }
+}
+
+/// A field that is no entry: it joins the table where it fits into it.
+fn write_new(table: &DynamicTable, header: &Header, out: &mut Octets) -> Result<(), NoMemory>
+    requires { size_of header.now ≤ MAX_HEADER_LIST_SIZE }
+    ensures written { OnOk result (out.new ≡ out.old ++ new_field table.now header.now) }
+    ensures extends { OnErr result (Extends out.old out.new) }
+{
+    let named = index_of(table, Sought::Name, header);
+    if table.takes(header) {
+        write_literal(WITH_INDEXING_MARK, WITH_INDEXING_BITS, named, header, out)
+    } else {
+        write_literal(
+            WITHOUT_INDEXING_MARK,
+            WITHOUT_INDEXING_BITS,
+            named,
+            header,
+            out,
+        )
+    }
+}
+
+/// A field, by the table as it is before it, which becomes the one after it.
+#[tactic(auto, unfolding(crate::specs::Indexing::indexed_field, crate::specs::Indexing::table_with_field))]
+fn write_field(
+    alloc: Global,
+    table: &mut DynamicTable,
+    header: &Header,
+    out: &mut Octets,
+) -> Result<(), NoMemory>
+    requires { size_of header.now ≤ MAX_HEADER_LIST_SIZE }
+    ensures written { OnOk result (out.new ≡ out.old ++ indexed_field table.old header.now) }
+    ensures after { OnOk result (table.new ≡ table_with_field table.old header.now) }
+    ensures extends { OnErr result (Extends out.old out.new) }
+{
+    match index_of(table, Sought::Field, header) {
+        Some(index) => write_marked(INDEXED_MARK, INDEXED_BITS, index, out),
+        None => {
+            write_new(table, header, out)?;
+            join(alloc, table, header)
+        }
+    }
+}
+
+/// Adds the entry of a field that is none, where it fits into the table.
+fn join(alloc: Global, table: &mut DynamicTable, header: &Header) -> Result<(), NoMemory>
+    requires { size_of header.now ≤ MAX_HEADER_LIST_SIZE }
+    ensures { OnOk result (table.new ≡ table_joined table.old header.now) }
+{
+    if table.takes(header) {
+        table.insert(header.copied(alloc)?)
+    } else {
+        Ok(())
+    }
+}
+
+/// Fields one after another.
+pub(crate) fn write_fields(
+    alloc: Global,
+    table: &mut DynamicTable,
+    headers: &[Header],
+    out: &mut Octets,
+) -> Result<(), NoMemory>
+    requires { list_size headers.now ≤ MAX_HEADER_LIST_SIZE }
+    ensures written { OnOk result (out.new ≡ out.old ++ indexed_fields table.old headers.now) }
+    ensures after { OnOk result (table.new ≡ table_with_fields table.old headers.now) }
+    ensures extends { OnErr result (Extends out.old out.new) }
+{
+    let mut rest = headers;
+    while let [header, others @ ..] = rest {
+        match write_field(alloc, table, header, out) {
+            Ok(()) => rest = others,
+            Err(NoMemory) => return Err(NoMemory),
+        }
+    }
+    Ok(())
+}
+
+/// A size update where the maximum size differs, and the table after it (sections 4.2 and 6.3).
+pub(crate) fn write_size(
+    limit: usize,
+    table: &mut DynamicTable,
+    out: &mut Octets,
+) -> Result<(), NoMemory>
+    requires { limit ≤ MAX_TABLE_SIZE }
+    ensures written { OnOk result (out.new ≡ out.old ++ size_update limit table.old) }
+    ensures after { OnOk result (table.new ≡ table_sized limit table.old) }
+    ensures extends { OnErr result (Extends out.old out.new) }
+{
+    if limit == table.limit() {
+        return Ok(());
+    }
+    write_marked(SIZE_UPDATE_MARK, SIZE_UPDATE_BITS, limit as u32, out)?;
+    table.resize(limit);
+    Ok(())
+}
