@@ -63,6 +63,7 @@ impl Conn {
             broken: None,
             failed: false,
             output,
+            spare: None,
         })
     }
 

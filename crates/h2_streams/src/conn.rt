@@ -1,8 +1,10 @@
 //! A connection: what it keeps, how it begins, what goes in and out.
-ghost use Rattle.std.specs.Prelude.{◌≡◌, ◌↔◌, ◌≤◌, length, drop, IsTrue, IsSome, OnOk, OnErr};
+ghost use Rattle.std.specs.Prelude.{◌≡◌, ◌↔◌, ◌+◌, ◌≤◌, length, drop, IsTrue, IsSome, OnOk, OnErr};
 ghost use Rattle.h2_frames.specs.Reading.{fed_with};
+ghost use Rattle.h2_history.specs.Puts.{kept};
+ghost use Rattle.h2_output.specs.declared.limits.TheConstants.{MOST_UNSENT};
 
-use esi_base::NoMemory;
+use esi_base::{NoMemory, Octets};
 use h2_flow::Ledger;
 use h2_frames::{FrameReader, Role};
 use h2_history::HeaderBlock;
@@ -31,6 +33,8 @@ pub struct Conn {
     pub(crate) broken: Option<u32>,
     pub(crate) failed: bool,
     pub(crate) output: Output,
+    /// The memory of the last header block that was put, for the next one. No contract sees it.
+    pub(crate) spare: Option<Octets>,
 }
 
 impl Model for Conn {
@@ -70,9 +74,11 @@ impl Conn {
         self.reader.feed(octets)
     }
 
-    /// The octets that wait to be sent, in order.
+    /// The octets that wait to be sent, in order: at most `MOST_UNSENT`, with room for the GOAWAY with which the
+    /// connection would end.
     pub fn output(&self) -> &[u8]
-        ensures { result.now ≡ self.now.output }
+        ensures octets { result.now ≡ self.now.output }
+        ensures limit { length result.now + kept self.now.broken ≤ MOST_UNSENT }
     {
         self.output.as_slice()
     }

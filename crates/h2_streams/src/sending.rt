@@ -135,6 +135,28 @@ impl Conn {
         self.offer_update(0, octets);
     }
 
+    /// Memory for a header block: that of the last one, or new memory.
+    fn spare_block(&mut self) -> Result<Octets, NoMemory>
+        ensures block { IfOk result (λ block. block ≡ []) }
+        ensures unchanged { self.new ≡ self.old }
+    {
+        match self.spare.take() {
+            None => Ok(Octets::from_vec(Vec::with_capacity(self.alloc, FIRST_OCTETS)?)),
+            Some(block) => {
+                let mut empty = block;
+                empty.truncate(0);
+                Ok(empty)
+            }
+        }
+    }
+
+    /// Keeps the memory of a header block for the next one.
+    fn keep_block(&mut self, block: Octets)
+        ensures { self.new ≡ self.old }
+    {
+        self.spare = Some(block);
+    }
+
     /// The block of a header list.
     #[tactic(auto, using(h2_history::specs::BlockSizes::block_len))]
     fn encode(&mut self, headers: &Headers) -> Result<Octets, NoMemory>
@@ -145,7 +167,7 @@ impl Conn {
         ensures after { OnOk result (self.new ≡ record self.old { writing = writing_after self.old.writing headers.now }) }
         ensures unchanged { OnErr result (self.new ≡ self.old) }
     {
-        let mut block = Octets::from_vec(Vec::with_capacity(self.alloc, FIRST_OCTETS)?);
+        let mut block = self.spare_block()?;
         self.encoder.block(headers, &mut block)?;
         Ok(block)
     }
@@ -181,6 +203,7 @@ impl Conn {
         }
         let block = self.encode(headers)?;
         self.put_block(stream, end, block.as_slice());
+        self.keep_block(block);
         Ok(())
     }
 
