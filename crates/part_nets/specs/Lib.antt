@@ -2,3 +2,4 @@ pub mod Passes
 pub mod PassLemmas
 pub mod GoodParts
 pub mod Outputs
+pub mod Readies

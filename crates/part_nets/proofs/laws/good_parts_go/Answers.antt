@@ -1,5 +1,6 @@
 use Rattle.part_nets.specs.GoodParts.{good_parts_do_go_forward, good_parts_do_go_back, good_parts_do_go_on}
 use Rattle.part_nets.specs.Outputs.{good_parts_do_give}
+use Rattle.part_nets.specs.Readies.{good_parts_do_give_back}
 use Rattle.part_nets.proofs.laws.good_parts_go.Goals as goal
 
 pub returns-clause-forward : goal.returns-clause-forward
@@ -13,3 +14,6 @@ returns-clause-on c = good_parts_do_go_on
 
 pub returns-clause-give : goal.returns-clause-give
 returns-clause-give c = good_parts_do_give
+
+pub returns-clause-give_back : goal.returns-clause-give_back
+returns-clause-give_back c = good_parts_do_give_back
