@@ -1,0 +1,3 @@
+pub mod Depending
+pub mod Listed
+pub mod Reported

@@ -1,0 +1,4 @@
+pub mod Dependence
+pub mod Places
+pub mod Breaks
+pub mod Laws
