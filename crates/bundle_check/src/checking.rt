@@ -1,20 +1,25 @@
 //! A design is checked.
 ghost use Rattle.std.specs.Prelude.{◌≡◌, IfOk};
-ghost use Rattle.esi_base.specs.Answers.{IfRefused};
+ghost use Rattle.esi_base.specs.Answers.{AnswersAs, IfRefused};
 ghost use Rattle.channel_typing.specs.Misfits.{misfits};
 ghost use Rattle.check_rules.specs.Checks.{Accepts, checks};
+ghost use Rattle.bundle_check.specs.Checking.{checked_of, tree_of};
 ghost use Rattle.bundle_check.specs.Refusals.{IsReported, IsCheckNumber};
 
 use crate::checked::Checked;
 use design_checks::{RuleBreak, checks_law, first_break};
 use esi_base::{Refusal, Stop};
 use esi_text::Design;
+use first_breaks::first_breaks_law;
 use std::alloc::Global;
 
 /// Checks a design. A design that breaks rules is refused by the first of them in the order of the checks
 /// (301 to 312), at the place of its break, and dropped.
-#[tactic(auto, using(crate::proofs::Refused::number_listed))]
+#[tactic(auto, using(crate::proofs::Refused::number_listed, crate::proofs::Answered::answers_kept, crate::proofs::Answered::answers_broken))]
 pub fn check(alloc: Global, design: Design) -> Result<Checked, Stop>
+    // What is answered is computed from the text and the tree.
+    ensures answers { AnswersAs tree_of (checked_of design.text design.tree) result }
+
     // A design is accepted exactly where it breaks no rule, and is kept as it is.
     ensures accepted { IfOk result (λ checked. Accepts (checks misfits design.tree)) }
     ensures kept { IfOk result (λ checked. checked.design ≡ design) }
@@ -25,6 +30,7 @@ pub fn check(alloc: Global, design: Design) -> Result<Checked, Stop>
     ensures numbers { IfRefused result (λ refusal. IsCheckNumber refusal.number) }
 {
     checks_law();
+    first_breaks_law();
     match first_break(alloc, &design.tree)? {
         None => Ok(Checked { design }),
         Some(RuleBreak { rule, at }) => {

@@ -1,9 +1,11 @@
 -- How the design and the stimulus are checked, one after the other, and the cycles of the actions.
-use Rattle.std.proofs.Common.{◌≡◌, ℕ, ◌+◌, ◌≤◌, Bool, true, false, if◌then◌else◌, Result, Ok, Err, List, [], ◌∷◌, IfOk, codes, refl, sym, ◌∙◌, ap, arith}
+use Rattle.std.proofs.Common.{◌≡◌, ℕ, ◌+◌, ◌≤◌, Bool, true, false, if◌then◌else◌, Result, Ok, Err, List, [], ◌∷◌, IfOk, codes, refl, sym, ◌∙◌, ap, subst, ◌||◌, arith}
+use Rattle.std.specs.Prelude.{nat_lt, Contains}
 use Rattle.std.specs.List.{sum_by}
 use Rattle.std.specs.Str.{bytes_eq}
+use Rattle.std.proofs.lemmas.Bool.{or_parts, ltb-false}
 use Rattle.std.proofs.lemmas.List.Sums.{sum_by-cons}
-use Rattle.esi_base.specs.Answers.{◌>>=◌, Reads}
+use Rattle.esi_base.specs.Answers.{◌>>=◌, Reads, StopsAs}
 use Rattle.esi_base.specs.declared.place.Refusal.{Refusal}
 use Rattle.esi_base.specs.declared.stop.Stop.{Stop}
 use Rattle.esi_base.specs.declared.stop.Stop.TheVariants.{Refused, NoMemory}
@@ -11,10 +13,21 @@ use Rattle.cycle_rules.specs.Simulation.{cycles_in, cycles_of_action}
 use Rattle.cycle_rules.specs.declared.action.Action.{Action}
 use Rattle.cycle_rules.specs.declared.action.Action.TheVariants.{Ready as ready}
 use Rattle.channel_types.specs.declared.esi_type.EsiType.{EsiType}
+use Rattle.channel_typing.specs.Misfits.{misfits}
+use Rattle.name_tables.specs.FirstPlaces.{Nowhere}
+use Rattle.name_tables.specs.PlaceLaws.{contains_here}
+use Rattle.check_rules.specs.Checks.{Accepts, checks}
+use Rattle.check_rules.specs.Counts.{outside}
+use Rattle.check_rules.specs.declared.limits.TheConstants.{MIN_STAGES, MAX_STAGES}
+use Rattle.bundle_check.specs.Checking.{checked_of}
+use Rattle.design_tree.specs.declared.design.Pipe.{Pipe}
+use Rattle.design_tree.specs.declared.design.DesignTree.{DesignTree}
+use Rattle.design_tree.specs.declared.design.DesignTree.TheVariants as F
+use Rattle.esi_text.specs.Designs.{design_of}
 use Rattle.stimulus_text.specs.Stimulus.{cycles_of}
 use Rattle.stimulus_text.specs.declared.step.Step.{Step}
 use Rattle.stimulus_text.specs.declared.step.Step.TheVariants.{Put, Ready, Run}
-use Rattle.esi_commands.specs.Inputs.{stimulus_refusal, in_file, input_of, pipe_of, actions_of_text, action_of, actions_of, put_of, word_of}
+use Rattle.esi_commands.specs.Inputs.{stimulus_refusal, in_file, input_of, pipe_in, pipe_of, actions_of_text, action_of, actions_of, put_of, word_of}
 use Rattle.command_runs.specs.Work.{stop_in_file}
 use Rattle.command_runs.specs.declared.work.FileRefusal.{FileRefusal}
 use Rattle.esi_commands.specs.declared.input.Input.{Input}
@@ -48,7 +61,34 @@ stop_in_stimulus design stimulus pipe (Refused refusal) p q =
     ∙ ap (λ r. in_file 1 r >>= λ ds. let input : Input = record { stages = pipe.1; steps = ds } in Ok input) q
 stop_in_stimulus design stimulus pipe NoMemory p q = tt
 
--- the cycles of actions
+-- ---- the design
+
+-- the number of stages of a pipe that breaks no rule
+few : (value at : ℕ) → Nowhere (Contains (outside MIN_STAGES MAX_STAGES value at)) → value ≤ MAX_STAGES
+few value at kept = tested (nat_lt value MIN_STAGES || nat_lt MAX_STAGES value) refl kept
+  where
+    tested : (b : Bool) → (nat_lt value MIN_STAGES || nat_lt MAX_STAGES value) ≡ b → Nowhere (Contains (if b then at ∷ [] else [])) → value ≤ MAX_STAGES
+    tested true e none = absurd (none at (contains_here at []))
+    tested false e none = let parts = or_parts (nat_lt value MIN_STAGES) (nat_lt MAX_STAGES value) e in ltb-false MAX_STAGES value parts.1
+
+pub few_stages : (pipe : Pipe) → Accepts (checks misfits (F.Pipe pipe)) → pipe.stages.value ≤ 64
+few_stages pipe kept = few pipe.stages.value pipe.stages.at kept.0
+
+-- the design was read and checked
+pub pipe_checked : (text of : List ℕ) (tree checked : DesignTree) (result : Result (EsiType × ℕ) (Stop Refusal)) → design_of text ≡ Ok tree → of ≡ text → checked_of of tree ≡ Ok checked → Reads (pipe_in checked) result
+    → Reads (pipe_of text) result
+pipe_checked text of tree checked result read same check reads =
+    subst (λ r. Reads (r >>= checked_of text >>= pipe_in) result) (sym read)
+    (subst (λ r. Reads (r >>= pipe_in) result) (sym (ap (λ t. checked_of t tree) (sym same) ∙ check)) reads)
+
+-- the check stops it
+pub not_checked : (text of : List ℕ) (tree : DesignTree) (stop : Stop Refusal) → design_of text ≡ Ok tree → of ≡ text → StopsAs (checked_of of tree) stop → StopsAs (pipe_of text) stop
+not_checked text of tree (Refused refusal) read same stops =
+    ap (λ r. r >>= checked_of text >>= pipe_in) read ∙ ap (λ r. r >>= pipe_in) (ap (λ t. checked_of t tree) (sym same) ∙ stops)
+not_checked text of tree NoMemory read same stops = tt
+
+-- ---- the cycles of actions
+
 abbrev cycles_of_result : Result Action Refusal → ℕ
 cycles_of_result (Ok action) = cycles_of_action action
 cycles_of_result (Err refusal) = 0

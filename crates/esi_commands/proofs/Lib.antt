@@ -1,4 +1,4 @@
 mod ActionLemmas
-mod InputLemmas
+pub mod InputLemmas
 mod LineLemmas
 mod TableLemmas

@@ -6,6 +6,7 @@ use Rattle.std.proofs.lemmas.List.{length-take, take_all}
 use Rattle.std.proofs.lemmas.Bool.{cases_lt, lt-ltb}
 use Rattle.esi_base.specs.Answers.{◌>>=◌}
 use Rattle.small_text.specs.Lines.{counting_lines}
+use Rattle.bundle_check.specs.Checking.{checked_of}
 use Rattle.design_expressions.specs.declared.limits.TheConstants.{OPEN_EXPRESSIONS}
 use Rattle.esi_text.specs.Designs.{design_of, design_of_depth, too_long, meaning_in, meaning_of_tokens}
 use Rattle.esi_text.specs.declared.limits.TheConstants.{LONGEST_DESIGN}
@@ -40,7 +41,7 @@ stimulus_cut text =
 long_pipe : (text : List ℕ) → LONGEST_DESIGN < length text → pipe_of text ≡ Err too_long
 unfolding design_of_depth
 long_pipe text above =
-    ap (λ b. (if b then Err too_long else meaning_in text (meaning_of_tokens OPEN_EXPRESSIONS text)) >>= pipe_in text) (lt-ltb LONGEST_DESIGN (length text) above)
+    ap (λ b. (if b then Err too_long else meaning_in text (meaning_of_tokens OPEN_EXPRESSIONS text)) >>= checked_of text >>= pipe_in) (lt-ltb LONGEST_DESIGN (length text) above)
 
 pipe_cut : (text : List ℕ) → pipe_of (take (LONGEST_DESIGN + 1) text) ≡ pipe_of text
 pipe_cut text =

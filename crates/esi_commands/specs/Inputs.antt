@@ -1,5 +1,5 @@
 -- What a design and a stimulus ask of a simulation, and which of them is refused.
-use Rattle.std.specs.Prelude.{ℕ, ◌&&◌, nat_le, Bool, Result, Ok, Err, List, [], ◌∷◌, if◌then◌else◌, codes}
+use Rattle.std.specs.Prelude.{ℕ, Bool, Result, Ok, Err, List, [], ◌∷◌, if◌then◌else◌, codes}
 use Rattle.std.specs.Str.{bytes_eq}
 use Rattle.esi_base.specs.Answers.{◌>>=◌}
 use Rattle.esi_base.specs.declared.place.Place.{Place}
@@ -8,14 +8,12 @@ use Rattle.command_runs.specs.declared.work.FileRefusal.{FileRefusal}
 use Rattle.cycle_rules.specs.declared.action.Action.{Action}
 use Rattle.cycle_rules.specs.declared.action.Action.TheVariants.{Put as put, Ready as ready, Run as run}
 use Rattle.esi_commands.specs.declared.input.Input.{Input}
-use Rattle.esi_commands.specs.declared.limits.TheConstants.{MOST_STAGES}
-use Rattle.esi_commands.specs.declared.simulation_rule.SimulationRule.TheVariants.{NoPipe, StagesOutOfRange}
+use Rattle.esi_commands.specs.declared.simulation_rule.SimulationRule.TheVariants.{NoPipe}
 use Rattle.esi_commands.specs.SimulationRules.{refusal_by}
 use Rattle.bit_packing.specs.OctetRules.{word_from as unpacked}
 use Rattle.bit_packing.specs.declared.octets.Unpacked.{Unpacked}
 use Rattle.channel_types.specs.declared.esi_type.EsiType.{EsiType}
-use Rattle.esi_base.specs.Places.{place_at}
-use Rattle.design_tree.specs.declared.leaves.Number.{Number}
+use Rattle.bundle_check.specs.Checking.{checked_of}
 use Rattle.design_tree.specs.declared.design.DesignTree.{DesignTree}
 use Rattle.design_tree.specs.declared.design.DesignTree.TheVariants.{Pipe, Modules}
 use Rattle.esi_text.specs.Designs.{design_of}
@@ -29,11 +27,6 @@ use Rattle.stimulus_text.specs.declared.step.Step.TheVariants.{Put, Ready, Run}
 -- the refusal of a design that is no pipe
 abbrev pub no_pipe : Refusal
 no_pipe = refusal_by NoPipe (record { line = 1; column = 1 })
-
--- the stages of a pipe, of which there are 1 to `MOST_STAGES`
-abbrev pub stages_in : List ℕ → Number → Result ℕ Refusal
-stages_in text stages =
-    if nat_le 1 stages.value && nat_le stages.value MOST_STAGES then Ok stages.value else Err (refusal_by StagesOutOfRange (place_at text stages.at))
 
 -- a refusal by a rule of the stimulus that is checked with the design
 abbrev pub stimulus_refusal : StimulusRule → Place → Refusal
@@ -66,24 +59,16 @@ actions_of ty (step ∷ steps) = do
   actions ← actions_of ty steps
   Ok (action ∷ actions)
 
--- how many stages the pipe has that a design is, whose text is this one
-abbrev pub stages_of : List ℕ → DesignTree → Result ℕ Refusal
-stages_of text (Pipe pipe) = stages_in text pipe.stages
-stages_of text (Modules declarations top) = Err no_pipe
+-- the type that a pipe carries, and how many stages it has; any other design is refused
+abbrev pub pipe_in : DesignTree → Result (EsiType × ℕ) Refusal
+pipe_in (Pipe pipe) = Ok (pipe.ty, pipe.stages.value)
+pipe_in (Modules declarations top) = Err no_pipe
 
--- the type that it carries
-abbrev pub type_of_pipe : DesignTree → Result EsiType Refusal
-type_of_pipe (Pipe pipe) = Ok pipe.ty
-type_of_pipe (Modules declarations top) = Err no_pipe
-
--- both
-abbrev pub pipe_in : List ℕ → DesignTree → Result (EsiType × ℕ) Refusal
-pipe_in text tree = stages_of text tree >>= λ stages. type_of_pipe tree >>= λ ty. Ok (ty, stages)
-
--- The pipe that a design text means, and the actions that a stimulus means for it.
+-- The pipe that a design text means: the text is read, its design is checked, and it is a pipe.
 abbrev pub pipe_of : List ℕ → Result (EsiType × ℕ) Refusal
-pipe_of text = design_of text >>= pipe_in text
+pipe_of text = design_of text >>= checked_of text >>= pipe_in
 
+-- The actions that a stimulus means for values of the type.
 abbrev pub actions_of_text : EsiType → List ℕ → Result (List Action) Refusal
 actions_of_text ty text = stimulus_of text >>= λ stimulus. actions_of ty stimulus.steps
 

@@ -1,14 +1,13 @@
--- The rules of a design that is simulated, and their numbers.
+-- The rule of a design that is simulated, beside those of every design, and its number.
 use Rattle.std.specs.Prelude.{ℕ}
 use Rattle.esi_base.specs.declared.place.Place.{Place}
 use Rattle.esi_base.specs.declared.place.Refusal.{Refusal}
 use Rattle.esi_commands.specs.declared.simulation_rule.SimulationRule.{SimulationRule}
-use Rattle.esi_commands.specs.declared.simulation_rule.SimulationRule.TheVariants.{NoPipe, StagesOutOfRange}
+use Rattle.esi_commands.specs.declared.simulation_rule.SimulationRule.TheVariants.{NoPipe}
 
 -- the number of a rule in refusals
 abbrev pub rule_number : SimulationRule → ℕ
 rule_number NoPipe = 219
-rule_number StagesOutOfRange = 312
 
 -- a refusal by this rule, at a place of the text
 abbrev pub refusal_by : SimulationRule → Place → Refusal

@@ -5,17 +5,19 @@ ghost use Rattle.esi_base.specs.Answers.{Reads, IfRefused};
 ghost use Rattle.cycle_rules.specs.Simulation.{cycles_in};
 ghost use Rattle.channel_types.specs.Types.{IsGoodType};
 ghost use Rattle.esi_text.specs.TypesIn.{types_in};
-ghost use Rattle.esi_commands.specs.Inputs.{pipe_of, stages_of, stages_in, type_of_pipe, no_pipe, actions_of_text, action_of, actions_of, word_of, input_of, stimulus_refusal};
+ghost use Rattle.channel_typing.specs.Misfits.{misfits};
+ghost use Rattle.check_rules.specs.Checks.{Accepts, checks};
+ghost use Rattle.esi_commands.specs.Inputs.{pipe_of, pipe_in, no_pipe, actions_of_text, action_of, actions_of, word_of, input_of, stimulus_refusal};
 ghost use Rattle.stimulus_text.specs.declared.limits.TheConstants.{STIMULUS_CYCLES};
 
-use crate::limits::MOST_STAGES;
 use crate::simulation_rule::SimulationRule;
 use bit_packing::from_octets;
+use bundle_check::check;
 use command_runs::{WorkStop, stop_in_file};
 use cycle_rules::Action;
-use design_tree::{DesignTree, Number};
+use design_tree::DesignTree;
 use esi_base::{List, Place, Refusal, Stop, Word};
-use esi_text::{Design, Step, StimulusRule, read_design, read_stimulus};
+use esi_text::{Step, StimulusRule, read_design, read_stimulus};
 use esi_types::EsiType;
 use std::alloc::Global;
 
@@ -51,46 +53,31 @@ pub fn check_input(alloc: Global, design: &[u8], stimulus: &[u8]) -> Result<Inpu
     }
 }
 
-/// The type that the design's pipe carries, and how many stages it has.
+/// The type that the design's pipe carries, and how many stages it has. The text is read, and its design is
+/// checked first.
+#[tactic(auto, using(crate::proofs::InputLemmas::pipe_checked, crate::proofs::InputLemmas::not_checked))]
 fn check_design(alloc: Global, text: &[u8]) -> Result<(EsiType, u32), Stop>
     ensures reads { Reads (pipe_of text.now) result }
     ensures good { IfOk result (λ pipe. IsGoodType pipe.0) }
 {
     let design = read_design(alloc, text)?;
-    let stages = stages(&design)?;
-    let ty = type_of_pipe(design.tree)?;
-    Ok((ty, stages))
+    let checked = check(alloc, design)?;
+    pipe_in(checked.design.tree)
 }
 
-/// How many stages the design's pipe has, or the refusal of another count at the number. A design that
-/// is no pipe is refused at 1:1.
-fn stages(design: &Design) -> Result<u32, Stop>
-    ensures { Reads (stages_of design.now.text design.now.tree) result }
-{
-    match &design.tree {
-        DesignTree::Pipe(pipe) => stages_in(design, pipe.stages),
-        DesignTree::Modules { .. } => Err(no_pipe()),
-    }
-}
-
-fn stages_in(design: &Design, stages: Number) -> Result<u32, Stop>
-    ensures { Reads (stages_in design.now.text stages) result }
-{
-    if 1 <= stages.value && stages.value <= u128::from(MOST_STAGES) {
-        Ok(stages.value as u32)
-    } else {
-        Err(SimulationRule::StagesOutOfRange.at(design.place(stages.at)))
-    }
-}
-
-/// The type that a design's pipe carries.
-fn type_of_pipe(tree: DesignTree) -> Result<EsiType, Stop>
-    requires { All IsGoodType (types_in tree) }
-    ensures reads { Reads (type_of_pipe tree) result }
-    ensures good { IfOk result IsGoodType }
+/// The type that a pipe carries and how many stages it has, of a design that breaks no rule. One that is
+/// no pipe is refused.
+fn pipe_in(tree: DesignTree) -> Result<(EsiType, u32), Stop>
+    requires kept { Accepts (checks misfits tree) }
+    requires types { All IsGoodType (types_in tree) }
+    ensures reads { Reads (pipe_in tree) result }
+    ensures good { IfOk result (λ pipe. IsGoodType pipe.0) }
 {
     match tree {
-        DesignTree::Pipe(pipe) => Ok(pipe.ty),
+        DesignTree::Pipe(pipe) => {
+            let stages = pipe.stages.value as u32;
+            Ok((pipe.ty, stages))
+        }
         DesignTree::Modules {
             declarations: _declarations,
             top: _top,

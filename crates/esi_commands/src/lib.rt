@@ -4,7 +4,6 @@
 
 pub mod format;
 mod input;
-pub mod limits;
 mod output;
 pub mod program;
 pub mod sim;

@@ -1,27 +1,24 @@
-//! The rules of a design that is simulated, and their numbers.
+//! The rule of a design that is simulated, beside those of every design, and its number.
 ghost use Rattle.std.specs.Prelude.{◌≡◌};
 
 use esi_base::{Place, Refusal, Stop};
 
-/// Why a design, which is good by itself, is not simulated.
+/// Why a design that breaks no rule is not simulated.
 #[derive(Clone, Copy, Debug, PartialEq, Eq)]
 pub enum SimulationRule {
     /// A design that is simulated is a pipe.
     NoPipe,
-    /// A pipe has 1 to 64 stages.
-    StagesOutOfRange,
 }
 
 impl SimulationRule {
     ghost use Rattle.esi_commands.specs.SimulationRules.{rule_number, refusal_by};
 
-    /// The number of the rule in refusals: 219 or 312.
+    /// The number of the rule in refusals: 219.
     pub fn number(self) -> u16
         ensures { result ≡ rule_number self }
     {
         match self {
             SimulationRule::NoPipe => 219,
-            SimulationRule::StagesOutOfRange => 312,
         }
     }
 

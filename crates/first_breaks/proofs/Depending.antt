@@ -63,8 +63,8 @@ ways_joined needs zero i j k low first last = absurd (omega arith)
 ways_joined needs (suc n) i j k low first last = elim (cases_eq j n) [
   | inl is ↦
       by_itself needs n i k
-        (to_itself needs n i (subst (λ m. depends_below needs (suc n) i m ≡ true) is first))
-        (from_itself needs n k (subst (λ m. depends_below needs (suc n) m k ≡ true) is last))
+      (to_itself needs n i (subst (λ m. depends_below needs (suc n) i m ≡ true) is first))
+      (from_itself needs n k (subst (λ m. depends_below needs (suc n) m k ≡ true) is last))
   | inr other ↦ lower (λ to from. ways_joined needs n to j from (omega arith))
 ]
   where

@@ -5,7 +5,7 @@
 
 use case_words::octets_of;
 use design_manifest::{Asked, manifest_text};
-use esi_base::{List, NoMemory, Octets};
+use esi_base::{LONGEST_TEXT, List, NoMemory, Octets};
 use esi_types::{Directory, Endpoint, SIDE_ENDPOINTS, parse_type};
 use serde_json::Value;
 use std::alloc::Global;
@@ -128,7 +128,11 @@ fn add_part(alloc: Global, case: &mut Case, part: &str) -> Result<bool, NoMemory
         })?;
         return Ok(true);
     }
-    let Ok(ty) = parse_type(alloc, second.as_bytes()) else {
+    let text = second.as_bytes();
+    if text.len() > LONGEST_TEXT {
+        return Ok(false);
+    }
+    let Ok(ty) = parse_type(alloc, text) else {
         return Ok(false);
     };
     let endpoint = Endpoint { name, ty };
