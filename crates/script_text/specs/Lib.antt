@@ -1,0 +1,3 @@
+pub mod RuleNumbers
+pub mod ScriptLines
+pub mod ScriptReading
