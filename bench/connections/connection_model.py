@@ -1,7 +1,7 @@
 """One end of an HTTP/2 connection, and what is done with it in the cases of `crates/stream_cases`.
 
-It was written from the documents (docs/frames.md, docs/streams.md, docs/header-blocks.md) and RFC 9113 and 7541 alone, not from the
-program: what it answers is what the program has to answer.
+It follows the documents (docs/frames.md, docs/streams.md, docs/header-blocks.md) and RFC 9113 and 7541, and shares no code with the
+program; its author had read the program and its definitions too. What it answers is what the program has to answer.
 """
 
 PROTOCOL_ERROR, FLOW_CONTROL_ERROR, STREAM_CLOSED, FRAME_SIZE_ERROR, REFUSED_STREAM, COMPRESSION_ERROR, ENHANCE_YOUR_CALM = 1, 3, 5, 6, 7, 9, 11
