@@ -13,11 +13,11 @@ FIRST_OCTETS = 2_000_000
 ENOUGH_SECONDS = 0.25
 
 
-def is_built():
+def is_built(program):
     """Whether the program stands, and nothing of the crates is newer than it."""
-    if not os.path.exists(PROGRAM):
+    if not os.path.exists(program):
         return False
-    built = os.path.getmtime(PROGRAM)
+    built = os.path.getmtime(program)
     for folder, folders, files in os.walk(os.path.join(TOP, "crates")):
         folders[:] = [name for name in folders if name not in ("out", "must-fail")]
         for name in files:
@@ -28,7 +28,7 @@ def is_built():
 
 def build():
     """Proves and builds the program, by one run of it, unless it was built (as `rt ci` does too)."""
-    if is_built():
+    if is_built(PROGRAM):
         return
     subprocess.run(
         ["rt", "run", "--", "read-stream-100", "1", "data/three.stream"],
