@@ -1,6 +1,6 @@
 -- All types and misfits of the rules are found along an order in which all elements stand.
 use Rattle.std.proofs.Common.{◌≡◌, ℕ, zero, suc, ◌+◌, ◌<◌, ◌||◌, Bool, true, false, inl, inr, List, [], ◌∷◌, ◌++◌, Option, Some, None, length, map, get_or, set, take, refl, ap, sym, ◌∙◌, subst, arith, eqb, append_assoc}
-use Rattle.std.specs.Prelude.{Ok, Err, Contains, slice_get, option_to_list, if◌then◌else◌}
+use Rattle.std.specs.Prelude.{Contains, slice_get, option_to_list, if◌then◌else◌}
 use Rattle.std.specs.List.{IsDistinct, AllByRecursion}
 use Rattle.std.proofs.lemmas.Bool.{false≢true, cases_Bool, or_cases, or_left, or_right, and_parts, eqb-true, eq-eqb, ne_eqb}
 use Rattle.std.proofs.lemmas.Map.Keys.{IsDistinct-head, IsDistinct-tail}
@@ -18,7 +18,6 @@ use Rattle.channel_types.specs.SameTypesLaws.{is_test}
 use Rattle.design_tree.specs.declared.leaves.Name.{Name}
 use Rattle.design_tree.specs.declared.leaves.Reference.{Reference}
 use Rattle.design_tree.specs.declared.leaves.Reference.TheVariants as R
-use Rattle.design_tree.specs.declared.statements.Operation.{Operation}
 use Rattle.design_tree.specs.declared.statements.Statement.{Statement}
 use Rattle.design_tree.specs.declared.statements.Statement.TheVariants as S
 use Rattle.design_scopes.specs.Flat.{flat_contains}
@@ -32,10 +31,9 @@ use Rattle.body_order.specs.Makers.{maker_from, maker, needs_of_sources, first_n
 use Rattle.channel_typing.specs.DeclaredTypes.{declared_type, port_type}
 use Rattle.channel_typing.specs.Rules as M
 use Rattle.channel_typing.specs.Rules.{EachHas, HasType, IsMisfit}
-use Rattle.channel_typing.specs.Typing.{Known, Making, known_of, made_type, or_type, type_at, operation_made, refusals, made_or, unless_same, bound_misfits, element_misfits, drive_misfit}
-use Rattle.channel_typing.specs.Misfits.{misfits_of, made_by, known_with, known_after, misfits_along, nothing_known, known_in, type_in_body, drive_misfits, body_misfits, scope_misfits, order_of}
+use Rattle.channel_typing.specs.Typing.{Known, Making, known_of, made_type, or_type, type_at, refusals, made_or, unless_same, bound_misfits, element_misfits, drive_misfit}
+use Rattle.channel_typing.specs.Misfits.{misfits_of, made_by, known_with, known_after, misfits_along, nothing_known, known_in, type_in_body, drive_misfits, body_misfits, order_of}
 use Rattle.channel_typing.specs.OperationLaws.{operation_complete, misfit_complete}
-use Rattle.channel_typing.specs.BodyLaws.{IsMisfitIn}
 use Rattle.channel_typing.specs.Listed.{IsWhole, EachTypeListed, EachMisfitListed}
 
 -- ---- numbers that stand in a list

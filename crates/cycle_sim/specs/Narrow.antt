@@ -1,12 +1,10 @@
 -- A net whose word is worked out anew, as a word or as a number.
-use Rattle.std.specs.Prelude.{◌≡◌, ℕ, ◌+◌, ◌^◌, ◌<◌, ◌≤◌, ◌==◌, if◌then◌else◌, Bool, true, false, not, List, [], ◌∷◌, length, map, refl}
+use Rattle.std.specs.Prelude.{◌≡◌, ℕ, ◌^◌, ◌<◌, ◌≤◌, if◌then◌else◌, Bool, true, false, List, [], ◌∷◌, length, map, refl}
 use Rattle.std.specs.List.{AllByRecursion}
-use Rattle.std.proofs.Common.{sym, ◌∙◌, ap, subst, arith, set}
-use Rattle.std.proofs.lemmas.List.{set-get_or}
-use Rattle.esi_base.specs.Bits.{number_of, bits_of, number_of-bits_of, length-bits_of}
+use Rattle.std.proofs.Common.{sym, ◌∙◌, ap, subst, set}
+use Rattle.esi_base.specs.Bits.{number_of, bits_of, number_of-bits_of}
 use Rattle.esi_base.specs.BitLists.{bits_of-number_of, number_of-below}
 use Rattle.std.proofs.Math.Nat.{mod-eq_of_lt}
-use Rattle.netlist.specs.declared.limits.TheConstants.{MAX_NUMBER_WIDTH}
 use Rattle.netlist.specs.declared.net.Net.{Net}
 use Rattle.netlist.specs.Nets.{Bits, word_at, width_at, is_computed, sources, result_of}
 use Rattle.netlist.specs.Narrow.{IsNarrow, AreNumbers}

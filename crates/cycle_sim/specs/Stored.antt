@@ -1,5 +1,5 @@
 -- How the words of nets are stored: one of at most 64 bits as a number, beside a word that tells its width.
-use Rattle.std.specs.Prelude.{◌≡◌, ℕ, zero, suc, ◌+◌, ◌^◌, ◌<◌, ◌≤◌, Bool, true, false, if◌then◌else◌, nat_lt, List, [], ◌∷◌, length, map, refl}
+use Rattle.std.specs.Prelude.{◌≡◌, ℕ, zero, suc, ◌^◌, ◌<◌, ◌≤◌, Bool, true, false, if◌then◌else◌, nat_lt, List, [], ◌∷◌, length, map, refl}
 use Rattle.std.specs.List.{slice_index_or}
 use Rattle.std.proofs.Common.{sym, ◌∙◌, ap, subst, arith, set, inl, inr, get_or}
 use Rattle.std.proofs.lemmas.Bool.{cases_lt, cases_eq}
@@ -8,7 +8,7 @@ use Rattle.std.proofs.lemmas.Nat.{pow_pos}
 use Rattle.std.proofs.Math.Nat.{mod-eq_of_lt}
 use Rattle.esi_base.specs.Bits.{number_of, bits_of, length-bits_of, number_of-bits_of}
 use Rattle.esi_base.specs.BitLists.{bits_of-number_of, number_of-below}
-use Rattle.netlist.specs.Nets.{Bits, word_at, width_at}
+use Rattle.netlist.specs.Nets.{Bits, word_at}
 
 -- the word that is stored as a word and a number
 abbrev pub shown_word : Bits → ℕ → Bits

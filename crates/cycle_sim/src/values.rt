@@ -1,5 +1,5 @@
 //! The words of all nets.
-ghost use Rattle.std.specs.Prelude.{◌≡◌, ◌+◌, ◌/◌, ◌<◌, ◌≤◌, ◌^◌, IfOk, length, map};
+ghost use Rattle.std.specs.Prelude.{◌≡◌, ◌/◌, ◌<◌, ◌≤◌, ◌^◌, IfOk, length, map};
 ghost use Rattle.std.specs.List.{slice_index_or, slice_set};
 ghost use Rattle.esi_base.specs.Bits.{bits_of, number_of};
 ghost use Rattle.netlist.specs.Nets.{word_at};

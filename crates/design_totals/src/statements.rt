@@ -1,6 +1,6 @@
 //! What the statements of a body have.
-ghost use Rattle.std.specs.Prelude.{◌≡◌, map, option_copied};
-ghost use Rattle.check_rules.specs.Totals.{operation_total, member_total};
+ghost use Rattle.std.specs.Prelude.{◌≡◌, option_copied};
+ghost use Rattle.check_rules.specs.Totals.{operation_total};
 ghost use Rattle.design_scopes.specs.Resolving.{scope_in};
 ghost use Rattle.design_totals.specs.Capped.{capped_totals, members_capped, bundle_capped, found_totals, statement_capped, body_capped};
 

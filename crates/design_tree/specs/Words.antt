@@ -17,12 +17,12 @@ abbrev pub meaning_in : {A : Type 0} → WordList A → List ℕ → Option A
 meaning_in [] word = None
 meaning_in (row ∷ rows) word = if bytes_eq row.0 word then Some row.1 else meaning_in rows word
 
--- the operators of two operands
-abbrev pub operators : WordList Binary
-operators =
-    (codes "and", And) ∷ (codes "or", Or) ∷ (codes "xor", Xor) ∷ (codes "add", Add) ∷ (codes "sub", Sub) ∷ (codes "eq", Eq)
-    ∷ (codes "lt", Lt) ∷ (codes "cat", Cat) ∷ []
+-- the list of these things, each with its word
+abbrev pub with_words : {A : Type 0} → (A → List ℕ) → List A → WordList A
+with_words word [] = []
+with_words word (a ∷ rest) = (word a, a) ∷ with_words word rest
 
+-- the operators of two operands
 abbrev pub operator_word : Binary → List ℕ
 operator_word And = codes "and"
 operator_word Or = codes "or"
@@ -33,21 +33,24 @@ operator_word Eq = codes "eq"
 operator_word Lt = codes "lt"
 operator_word Cat = codes "cat"
 
--- the directions of a bundle's channels
-abbrev pub directions : WordList Direction
-directions = (codes "to_hw", ToHardware) ∷ (codes "from_hw", FromHardware) ∷ []
+abbrev pub operators : WordList Binary
+operators = with_words operator_word (And ∷ Or ∷ Xor ∷ Add ∷ Sub ∷ Eq ∷ Lt ∷ Cat ∷ [])
 
+-- the directions of a bundle's channels
 abbrev pub direction_word : Direction → List ℕ
 direction_word ToHardware = codes "to_hw"
 direction_word FromHardware = codes "from_hw"
 
--- the directions of a module's ports
-abbrev pub port_directions : WordList PortDirection
-port_directions = (codes "in", In) ∷ (codes "out", Out) ∷ []
+abbrev pub directions : WordList Direction
+directions = with_words direction_word (ToHardware ∷ FromHardware ∷ [])
 
+-- the directions of a module's ports
 abbrev pub port_direction_word : PortDirection → List ℕ
 port_direction_word In = codes "in"
 port_direction_word Out = codes "out"
+
+abbrev pub port_directions : WordList PortDirection
+port_directions = with_words port_direction_word (In ∷ Out ∷ [])
 
 -- Each is found in its list by its word, so no two have one word.
 abbrev pub ByTheirWords : {A : Type 0} → WordList A → (A → List ℕ) → Type 0

@@ -1,9 +1,9 @@
 //! What a whole call asks for.
 ghost use Rattle.std.specs.Prelude.{◌≡◌, IfOk};
-ghost use Rattle.esi_base.specs.Answers.{Reads, AnswersAs};
+ghost use Rattle.esi_base.specs.Answers.{Reads};
 ghost use Rattle.std.specs.Result.{result_map_both};
 ghost use Rattle.grpc_calls.specs.declared.asking.Asking.{Asking as WhatIsAsked};
-ghost use Rattle.grpc_calls.specs.CallRules.{IsAsking, WholeCall};
+ghost use Rattle.grpc_calls.specs.CallRules.{IsAsking};
 ghost use Rattle.grpc_calls.specs.Classes.{procedure_of, message_of, list_of, sent_to, word_for, connected, asked_by, asked, asking_of};
 
 use crate::asking::{Asking, CallRule};

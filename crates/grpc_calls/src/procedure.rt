@@ -1,5 +1,5 @@
 //! The procedures of the service `esi.cosim.ChannelServer`, and their paths.
-ghost use Rattle.std.specs.Prelude.{◌≡◌, ◌==◌, bytes_eq};
+ghost use Rattle.std.specs.Prelude.{◌≡◌, ◌==◌};
 ghost use Rattle.grpc_calls.specs.Procedures.{path_of, procedure_at};
 
 /// A procedure of the service.

@@ -1,6 +1,6 @@
 //! Header fields, one at a time (RFC 9113, sections 8.2 and 8.3).
 ghost use Rattle.std.specs.Prelude.{◌≡◌, ◌∷◌};
-ghost use Rattle.header_lists.specs.Fields.{is_named, is_bad_in_name, is_bad_name, is_bad_in_value, is_colon, is_connection_field, is_bad_te, is_bad_field, is_pseudo, is_request_pseudo, is_reply_pseudo};
+ghost use Rattle.header_lists.specs.Fields.{is_named, is_bad_in_name, is_bad_name, is_bad_in_value, is_connection_field, is_bad_te, is_bad_field, is_pseudo, is_request_pseudo, is_reply_pseudo};
 ghost use Rattle.std.specs.List.{list_any};
 ghost use Rattle.header_lists.specs.Scans.{is_bad_behind_first};
 

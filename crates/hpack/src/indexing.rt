@@ -1,5 +1,5 @@
 //! Fields with indices and the Huffman code, as an encoder writes them.
-ghost use Rattle.std.specs.Prelude.{◌≡◌, ◌<◌, ◌≤◌, ◌^◌, ◌+◌, ◌++◌, None, Option, ℕ, length, OnOk, OnErr};
+ghost use Rattle.std.specs.Prelude.{◌≡◌, ◌<◌, ◌≤◌, ◌^◌, ◌+◌, ◌++◌, None, Option, length, OnOk, OnErr};
 ghost use Rattle.hpack_huffman.specs.Encoding.{encoded};
 ghost use Rattle.hpack.specs.Tables.{size_of, list_size};
 ghost use Rattle.hpack.specs.Extends.{Extends};

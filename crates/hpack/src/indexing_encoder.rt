@@ -4,7 +4,7 @@ ghost use Rattle.hpack.specs.Tables.{list_size};
 ghost use Rattle.hpack.specs.Blocks.{IsBlock};
 ghost use Rattle.hpack.specs.Extends.{Extends};
 ghost use Rattle.hpack.specs.declared.limits.TheConstants.{MAX_TABLE_SIZE};
-ghost use Rattle.hpack.specs.Indexing.{AreTexts, new_indexing, with_allowed, indexed_block, indexing_after, size_update, table_sized, indexed_fields, table_with_fields};
+ghost use Rattle.hpack.specs.Indexing.{AreTexts, new_indexing, with_allowed, indexed_block, indexing_after};
 
 use crate::dynamic_table::DynamicTable;
 use crate::header::{Header, Headers};

@@ -1,5 +1,5 @@
 //! The entry of the two tables by which a field is written.
-ghost use Rattle.std.specs.Prelude.{◌≡◌, ◌<◌, ◌≤◌, ◌*◌, ◌+◌, ◌^◌, length, IfSome};
+ghost use Rattle.std.specs.Prelude.{◌≡◌, ◌<◌, ◌*◌, ◌+◌};
 ghost use Rattle.hpack.specs.StaticTable.{static_table, field};
 ghost use Rattle.hpack.specs.Indexing.{first_index, entries_of};
 ghost use Rattle.hpack.specs.Sought.{passes};

@@ -1,27 +1,27 @@
 -- What a line means, part by part, is what its rules say of it.
-use Rattle.std.proofs.Common.{◌≡◌, ◌+◌, ◌<◌, ◌≤◌, ℕ, Bool, true, false, Option, Some, None, Result, Ok, Err, List, [], ◌∷◌, ◌++◌, length, refl, sym, ap, ◌∙◌, inl, inr, arith, nat_lt, nat_le}
+use Rattle.std.proofs.Common.{◌≡◌, ◌+◌, ◌<◌, ℕ, Bool, true, false, Option, Some, None, Result, Ok, List, [], ◌∷◌, ◌++◌, length, refl, sym, ap, ◌∙◌, inl, inr, arith, nat_lt, nat_le}
 use Rattle.std.proofs.lemmas.Bool.{cases_Bool}
-use Rattle.std.specs.Prelude.{codes, unwrap_or, if◌then◌else◌}
+use Rattle.std.specs.Prelude.{codes, unwrap_or}
 use Rattle.std.specs.Str.{bytes_eq}
 use Rattle.esi_base.specs.declared.place.Refusal.{Refusal}
 use Rattle.esi_base.specs.Answers.{◌>>=◌, StopsAs}
 use Rattle.esi_base.specs.declared.stop.Stop.{Stop}
 use Rattle.esi_base.specs.declared.stop.Stop.TheVariants.{Refused, NoMemory}
-use Rattle.small_text.specs.Lines.{Part, Line, place_of}
-use Rattle.small_text.specs.LineLaws.{PartsAscend, AscendFrom}
+use Rattle.small_text.specs.Lines.{Part, Line}
+use Rattle.small_text.specs.LineLaws.{PartsAscend}
 use Rattle.small_text.specs.Hexadecimal.{octets_of}
-use Rattle.line_rules.specs.LineTests.{LineTest, IsBroken, Breaks, NoLater, broken_at, judged, InOrder}
-use Rattle.line_rules.specs.Shapes.{alone, with_one, with_two, alone_holds, one_holds, two_holds}
+use Rattle.line_rules.specs.LineTests.{LineTest, broken_at, judged, InOrder}
+use Rattle.line_rules.specs.Shapes.{alone_holds, one_holds, two_holds}
 use Rattle.line_rules.specs.TextRules.{AllInOrder}
 use Rattle.line_rules.specs.RuleLaws.{NoneTooLong, has_others, none_has}
 use Rattle.link_log.specs.declared.limits.TheConstants.{LOG_LINES, LOG_OCTETS}
-use Rattle.link_log.specs.declared.rule.LogRule.TheVariants.{TooLong, UnknownWord, PartCount, BadPart, NotOpen, NeverOpened, PastLimit}
+use Rattle.link_log.specs.declared.rule.LogRule.TheVariants.{UnknownWord, PartCount, BadPart, NotOpen, NeverOpened, PastLimit}
 use Rattle.link_log.specs.declared.step.LogStep.{LogStep}
 use Rattle.link_log.specs.declared.step.LogStep.TheVariants.{Opened, Bytes, Writable, Closed, Idle, Fail, Room}
 use Rattle.link_log.specs.RuleNumbers.{rule_number}
-use Rattle.link_log.specs.LogLines.{LogForm, form_of, conn_of, room_of, form_says, after_step, after_steps, open_by, is_open, is_unread, is_shut, is_new, is_long, conn_tests, part_tests, form_tests, line_tests, log_rules}
+use Rattle.link_log.specs.LogLines.{LogForm, form_of, conn_of, room_of, form_says, after_step, after_steps, open_by, is_open, is_unread, is_shut, is_new, is_long, part_tests, form_tests, line_tests, log_rules}
 use Rattle.link_log.specs.LogLines.LogForm.{unknown, miscounted, opening, bringing, writing, closing, idling, failing, rooming}
-use Rattle.link_log.specs.LogReading.{refuse_at, open_number, brought, roomed, room_step, parts_mean, counted, form_means}
+use Rattle.link_log.specs.LogReading.{open_number, brought, roomed, room_step, counted, form_means}
 
 -- ---- the meaning is the judgement
 

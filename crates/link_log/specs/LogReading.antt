@@ -1,5 +1,5 @@
 -- What a line of a log means, part by part.
-use Rattle.std.specs.Prelude.{ℕ, ◌≡◌, Bool, nat_lt, nat_le, Option, Some, None, Result, Ok, Err, List, [], ◌∷◌, if◌then◌else◌, length}
+use Rattle.std.specs.Prelude.{ℕ, Bool, nat_lt, nat_le, Option, Some, None, Result, Ok, Err, List, if◌then◌else◌, length}
 use Rattle.esi_base.specs.Answers.{◌>>=◌}
 use Rattle.esi_base.specs.declared.place.Refusal.{Refusal}
 use Rattle.small_text.specs.Lines.{Part, Line, place_of}

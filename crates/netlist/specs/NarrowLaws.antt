@@ -1,5 +1,5 @@
 -- The number of a net's word is computed from the numbers of its sources' words.
-use Rattle.std.specs.Prelude.{◌≡◌, ℕ, ◌+◌, ◌-◌, ◌*◌, ◌/◌, ◌%◌, ◌^◌, ◌<◌, ◌≤◌, ◌==◌, ◌&&◌, ◌||◌, if◌then◌else◌, not, map, Bool, true, false, List, [], ◌∷◌, ◌++◌, zero, suc, length, slice_range, bit_and, bit_or, bit_xor, IsTrue, ◌↔◌, All, refl}
+use Rattle.std.specs.Prelude.{◌≡◌, ℕ, ◌+◌, ◌-◌, ◌*◌, ◌/◌, ◌%◌, ◌^◌, ◌<◌, ◌≤◌, ◌==◌, ◌&&◌, ◌||◌, if◌then◌else◌, not, map, Bool, true, false, List, [], ◌∷◌, ◌++◌, suc, length, slice_range, bit_and, bit_or, bit_xor, IsTrue, ◌↔◌, refl}
 use Rattle.std.specs.List.{AllByRecursion}
 use Rattle.std.specs.Bool.{xor, one_answer}
 use Rattle.std.specs.Int.Bits.{and_lt}

@@ -1,7 +1,7 @@
 //! The last pass: next nets.
 ghost use Rattle.std.specs.Prelude.{◌≡◌, ◌+◌, ◌<◌, ◌≤◌, length, OnOk, OnErr, IsErrOf};
 ghost use Rattle.net_lists.specs.Lists.{with_nets, HasFront};
-ghost use Rattle.part_nets.specs.Passes.{input_count, output_count, next_nets, linked_up, stage_of, fifo_in, scan_of, fork_in, ready_at, MayGoOn};
+ghost use Rattle.part_nets.specs.Passes.{input_count, output_count, next_nets, linked_up, stage_of, fifo_in, scan_of, fork_in, MayGoOn};
 
 use crate::laid::Laid;
 use buffer_stage::{StageNets, push_stage_next};

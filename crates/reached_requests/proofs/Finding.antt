@@ -1,6 +1,6 @@
 -- What is found among the first so many by the index of its name.
-use Rattle.std.proofs.Common.{◌≡◌, ℕ, zero, suc, ◌+◌, ◌<◌, ◌≤◌, Bool, true, false, List, [], ◌∷◌, map, take, refl, ap, sym, ◌∙◌, subst, arith}
-use Rattle.std.specs.Prelude.{Option, Some, None, find, slice_get, if◌then◌else◌}
+use Rattle.std.proofs.Common.{◌≡◌, ℕ, zero, suc, ◌+◌, ◌<◌, ◌≤◌, Bool, true, false, List, [], ◌∷◌, map, take, refl, ap, ◌∙◌, arith}
+use Rattle.std.specs.Prelude.{Some, None, find, slice_get, if◌then◌else◌}
 use Rattle.name_tables.specs.Labels.{Label, same_label}
 use Rattle.name_tables.specs.Lists.{index_from}
 

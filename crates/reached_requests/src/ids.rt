@@ -1,6 +1,5 @@
 //! The texts of application ids.
 ghost use Rattle.std.specs.Prelude.{◌≡◌, ◌∷◌, [], ◌++◌, OnOk, IfOk};
-ghost use Rattle.std.specs.Fmt.{decimal};
 ghost use Rattle.reached_requests.specs.Requests.{id_text, index_text};
 
 use design_tree::ApplicationId;

@@ -1,5 +1,5 @@
 //! The modules of a design, found by name.
-ghost use Rattle.std.specs.Prelude.{◌≡◌, ◌<◌, ◌++◌, map, take, option_copied, IfOk, OnOk, IfSome};
+ghost use Rattle.std.specs.Prelude.{◌≡◌, ◌<◌, ◌++◌, map, take, IfOk, OnOk, IfSome};
 ghost use Rattle.name_tables.specs.Keys.{label_of};
 ghost use Rattle.check_rules.specs.Scopes.{module_in, modules_of};
 ghost use Rattle.reached_requests.specs.Requests.{known_of, requests_in};

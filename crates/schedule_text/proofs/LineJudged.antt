@@ -1,27 +1,27 @@
 -- What a line means, part by part, is what its rules say of it.
-use Rattle.std.proofs.Common.{◌≡◌, ◌+◌, ◌<◌, ◌≤◌, ℕ, Bool, true, false, Option, Some, None, Result, Ok, Err, List, [], ◌∷◌, ◌++◌, length, refl, sym, ap, ◌∙◌, inl, inr, arith, nat_lt, nat_le}
+use Rattle.std.proofs.Common.{◌≡◌, ◌+◌, ℕ, Bool, true, false, Option, Some, None, Result, Ok, List, [], ◌∷◌, length, refl, sym, ap, ◌∙◌, inl, inr, arith, nat_lt, nat_le}
 use Rattle.std.proofs.lemmas.Bool.{cases_Bool}
-use Rattle.std.specs.Prelude.{codes, unwrap_or, if◌then◌else◌}
+use Rattle.std.specs.Prelude.{codes, unwrap_or}
 use Rattle.std.specs.List.{sum_by}
 use Rattle.std.specs.Str.{bytes_eq}
 use Rattle.esi_base.specs.declared.place.Refusal.{Refusal}
 use Rattle.esi_base.specs.declared.stop.Stop.{Stop}
 use Rattle.esi_base.specs.declared.stop.Stop.TheVariants.{Refused, NoMemory}
 use Rattle.esi_base.specs.Answers.{StopsAs}
-use Rattle.small_text.specs.Lines.{Part, Line, place_of}
-use Rattle.small_text.specs.LineLaws.{PartsAscend, AscendFrom}
-use Rattle.line_rules.specs.LineTests.{LineTest, IsBroken, Breaks, NoLater, broken_at, judged, InOrder}
-use Rattle.line_rules.specs.Shapes.{alone, with_one, alone_holds, one_holds}
+use Rattle.small_text.specs.Lines.{Part, Line}
+use Rattle.small_text.specs.LineLaws.{PartsAscend}
+use Rattle.line_rules.specs.LineTests.{LineTest, broken_at, judged, InOrder}
+use Rattle.line_rules.specs.Shapes.{alone_holds, one_holds}
 use Rattle.line_rules.specs.TextRules.{AllInOrder}
 use Rattle.line_rules.specs.RuleLaws.{NoneTooLong, has_others, none_has}
 use Rattle.schedule_text.specs.declared.limits.TheConstants.{SCHEDULE_LINES, SCHEDULE_ROUNDS}
-use Rattle.schedule_text.specs.declared.rule.ScheduleRule.TheVariants.{TooLong, UnknownWord, PartCount, BadPart, PastLimit}
+use Rattle.schedule_text.specs.declared.rule.ScheduleRule.TheVariants.{UnknownWord, PartCount, BadPart, PastLimit}
 use Rattle.schedule_text.specs.declared.step.Move.{Move}
 use Rattle.schedule_text.specs.declared.step.Move.TheVariants.{Client, Server, Up, Down, Round}
 use Rattle.schedule_text.specs.RuleNumbers.{rule_number}
 use Rattle.schedule_text.specs.ScheduleLines.{ScheduleForm, form_of, move_of, round_of, form_says, rounds_of, is_unread, passes_rounds, part_tests, form_tests, line_tests, schedule_rules}
 use Rattle.schedule_text.specs.ScheduleLines.ScheduleForm.{unknown, miscounted, for_client, for_server, moving_up, moving_down, rounding}
-use Rattle.schedule_text.specs.ScheduleReading.{refuse_at, moved, rounded, counted, form_means}
+use Rattle.schedule_text.specs.ScheduleReading.{moved, rounded, counted, form_means}
 
 -- ---- the meaning is the judgement
 

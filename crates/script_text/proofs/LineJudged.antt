@@ -1,5 +1,5 @@
 -- What a line means, part by part, is what its rules say of it.
-use Rattle.std.proofs.Common.{◌≡◌, ◌+◌, ◌<◌, ◌≤◌, ℕ, Bool, true, false, not, Option, Some, None, Result, Ok, Err, List, [], ◌∷◌, ◌++◌, length, refl, sym, ap, ◌∙◌, inl, inr, arith, nat_lt, nat_le}
+use Rattle.std.proofs.Common.{◌≡◌, ◌+◌, ◌<◌, ℕ, Bool, true, false, Option, Some, None, Result, Ok, List, [], ◌∷◌, ◌++◌, length, refl, sym, ap, ◌∙◌, inl, inr, arith, nat_le}
 use Rattle.std.proofs.lemmas.Bool.{cases_Bool}
 use Rattle.std.specs.Prelude.{codes, unwrap_or, if◌then◌else◌}
 use Rattle.std.specs.Str.{bytes_eq}
@@ -7,21 +7,21 @@ use Rattle.esi_base.specs.declared.place.Refusal.{Refusal}
 use Rattle.esi_base.specs.declared.stop.Stop.{Stop}
 use Rattle.esi_base.specs.declared.stop.Stop.TheVariants.{Refused, NoMemory}
 use Rattle.esi_base.specs.Answers.{StopsAs}
-use Rattle.small_text.specs.Lines.{Part, Line, place_of}
+use Rattle.small_text.specs.Lines.{Part, Line}
 use Rattle.small_text.specs.LineLaws.{PartsAscend, AscendFrom}
 use Rattle.small_text.specs.Hexadecimal.{octets_of}
-use Rattle.line_rules.specs.LineTests.{LineTest, IsBroken, Breaks, NoLater, broken_at, judged, InOrder}
-use Rattle.line_rules.specs.Shapes.{alone, with_two, alone_holds, two_holds}
+use Rattle.line_rules.specs.LineTests.{LineTest, broken_at, judged, InOrder}
+use Rattle.line_rules.specs.Shapes.{alone_holds, two_holds}
 use Rattle.line_rules.specs.TextRules.{AllInOrder}
 use Rattle.line_rules.specs.RuleLaws.{NoneTooLong, has_others, none_has}
 use Rattle.script_text.specs.declared.earlier.Earlier.{Earlier}
 use Rattle.script_text.specs.declared.limits.TheConstants.{SCRIPT_ATTACHES, SCRIPT_LINES}
 use Rattle.script_text.specs.declared.rule.ScriptRule.{ScriptRule}
-use Rattle.script_text.specs.declared.rule.ScriptRule.TheVariants.{TooLong, UnknownWord, PartCount, BadPart, AttachAfterSend, NotAttached, PastLimit}
+use Rattle.script_text.specs.declared.rule.ScriptRule.TheVariants.{UnknownWord, PartCount, BadPart, AttachAfterSend, NotAttached, PastLimit}
 use Rattle.script_text.specs.declared.step.ScriptStep.{ScriptStep}
 use Rattle.script_text.specs.declared.step.ScriptStep.TheVariants.{Attach, Send, Expect, Listing}
 use Rattle.script_text.specs.RuleNumbers.{rule_number}
-use Rattle.script_text.specs.ScriptLines.{ScriptForm, attach_form, send_form, form_of, status_of, count_of, form_says, after_step, after_steps, said_by, is_unread, is_long, is_status, is_attached, status_tests, attach_tests, send_tests, part_tests, form_tests, line_tests, script_rules}
+use Rattle.script_text.specs.ScriptLines.{ScriptForm, attach_form, send_form, form_of, status_of, count_of, form_says, after_step, after_steps, said_by, is_unread, is_long, is_status, is_attached, status_tests, attach_tests, part_tests, form_tests, line_tests, script_rules}
 use Rattle.script_text.specs.ScriptLines.ScriptForm.{unknown, miscounted, attaching, attaching_with, sending, sending_with, expecting, listing}
 use Rattle.script_text.specs.ScriptReading.{refuse_at, unless, with_read, with_status, attached, named, form_means}
 

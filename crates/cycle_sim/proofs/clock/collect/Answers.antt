@@ -1,4 +1,4 @@
-use Rattle.std.proofs.Common.{◌≡◌, ◌-◌, length, arith, refl, sym, ap, ◌∙◌}
+use Rattle.std.proofs.Common.{◌≡◌, ◌-◌, length, arith, refl, sym, ◌∙◌}
 use Rattle.netlist.specs.Nets.{word_at, width_at}
 use Rattle.netlist.specs.Plans.{Plan}
 use Rattle.cycle_sim.proofs.clock.collect.Goals as goal

@@ -1,4 +1,4 @@
-use Rattle.std.proofs.Common.{◌≡◌, ◌<◌, ◌≤◌, ◌^◌, set, subst, sym, ap, ◌∙◌, length}
+use Rattle.std.proofs.Common.{◌≡◌, ◌<◌, ◌^◌, set, subst, sym, ap, ◌∙◌}
 use Rattle.esi_base.specs.Bits.{number_of, bits_of}
 use Rattle.esi_base.specs.BitLists.{number_of-below}
 use Rattle.netlist.specs.declared.limits.TheConstants.{MAX_NUMBER_WIDTH}

@@ -1,4 +1,4 @@
-use Rattle.std.proofs.Common.{◌^◌, ◌<◌, subst, sym, ◌∙◌, arith}
+use Rattle.std.proofs.Common.{◌^◌, ◌<◌, ◌∙◌}
 use Rattle.std.proofs.Math.Nat.{mod-eq_of_lt, lt_of_lt_of_le}
 use Rattle.std.proofs.Math.Pow.{pow_mono}
 use Rattle.esi_base.specs.Bits.{number_of}

@@ -1,4 +1,4 @@
-use Rattle.std.proofs.Common.{◌≡◌, ◌++◌, map}
+use Rattle.std.proofs.Common.{◌≡◌, map}
 use Rattle.std.specs.Prelude.{take}
 use Rattle.serde_json.specs.View.{view}
 use Rattle.design_manifest.specs.Manifest.{request_of}

@@ -1,6 +1,5 @@
 use Rattle.std.proofs.Common.{◌≡◌, ◌++◌, string_bytes}
-use Rattle.std.specs.List.{flat_map}
-use Rattle.std.specs.Prelude.{encode_utf8, drop}
+use Rattle.std.specs.Prelude.{drop}
 use Rattle.design_manifest.specs.Manifest.{characters}
 use Rattle.design_manifest.proofs.value.string.Given as goal
 

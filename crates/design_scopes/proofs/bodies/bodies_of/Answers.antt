@@ -1,4 +1,4 @@
-use Rattle.std.proofs.Common.{subst, sym, map, length, ◌∙◌}
+use Rattle.std.proofs.Common.{subst, sym, ◌∙◌}
 use Rattle.design_scopes.specs.Bodies.{referred, AreBodies, AreModuleBodies}
 use Rattle.design_scopes.proofs.BodyLists.{bodies_are, many_referred}
 use Rattle.design_scopes.proofs.bodies.bodies_of.Goals as goal

@@ -1,10 +1,8 @@
-use Rattle.std.proofs.Common.{◌≡◌, ◌∙◌, ◌++◌, ◌∷◌, [], sym, ap, arith, length}
+use Rattle.std.proofs.Common.{◌≡◌, ◌++◌, ◌∷◌, [], sym, arith}
 use Rattle.std.proofs.lemmas.Grind.{common_steps}
 use Rattle.std.proofs.lemmas.Result.{err_from_is_err_and}
 use Rattle.line_rules.specs.RuleLaws.{next_line, last_line, stopped_line}
-use Rattle.link_log.specs.declared.step.LogStep.{LogStep}
-use Rattle.link_log.specs.LogLines.{form_of, form_says, form_tests, open_by, after_step, log_rules}
-use Rattle.link_log.specs.LogReading.{form_means}
+use Rattle.link_log.specs.LogLines.{after_step, log_rules}
 use Rattle.link_log.proofs.LineJudged.{line_judged, line_stopped, after_more}
 use Rattle.link_log.proofs.reading.read_steps.Goals as goal
 

@@ -1,10 +1,8 @@
-use Rattle.std.proofs.Common.{false, ◌≡◌, ◌∙◌, ◌++◌, ◌∷◌, [], sym, ap, arith, length}
+use Rattle.std.proofs.Common.{false, ◌≡◌, ◌++◌, ◌∷◌, [], sym, arith}
 use Rattle.std.proofs.lemmas.Grind.{common_steps}
 use Rattle.std.proofs.lemmas.Result.{err_from_is_err_and}
 use Rattle.line_rules.specs.RuleLaws.{next_line, last_line, stopped_line}
-use Rattle.script_text.specs.declared.step.ScriptStep.{ScriptStep}
-use Rattle.script_text.specs.ScriptLines.{form_of, form_says, form_tests, said_by, after_step, script_rules}
-use Rattle.script_text.specs.ScriptReading.{form_means}
+use Rattle.script_text.specs.ScriptLines.{after_step, script_rules}
 use Rattle.script_text.proofs.LineJudged.{line_judged, line_stopped, after_more}
 use Rattle.script_text.proofs.reading.read_steps.Goals as goal
 
