@@ -52,10 +52,7 @@ fn owner<'v, 'a>(scope: &ScopeNames<'v, 'a>, id: &'a ApplicationId) -> Option<&'
 fn type_of_port<'a>(port: Option<&'a ModulePort>) -> Option<&'a EsiType>
     ensures { option_copied result ≡ option_map type_of_port (option_copied port.entry) }
 {
-    match port {
-        Some(found) => Some(&found.ty),
-        None => None,
-    }
+    port.map(|found| &found.ty)
 }
 
 /// The type of a part of a request or of an instance.
@@ -82,10 +79,7 @@ fn member_type<'v, 'a>(name: &'a Name, bundle: Option<&'v BundleNames<'a>>) -> O
 {
     match bundle {
         None => None,
-        Some(found) => match found.find(name) {
-            None => None,
-            Some(member) => Some(&member.ty),
-        },
+        Some(found) => found.find(name).map(|member| &member.ty),
     }
 }
 

@@ -78,16 +78,12 @@ impl<'a> KnownTypes<'a> {
                 self.share(number, maker);
                 Ok(())
             }
-            NewType::Passed(Origin::Nowhere) => {
-                self.forget(number);
-                Ok(())
-            }
             NewType::Computed(OwnType::Value(value)) => {
                 self.put_value(number, value);
                 Ok(())
             }
             NewType::Computed(OwnType::Own(own)) => self.put_own(number, own),
-            NewType::Unknown => {
+            NewType::Passed(Origin::Nowhere) | NewType::Unknown => {
                 self.forget(number);
                 Ok(())
             }

@@ -50,12 +50,22 @@ pub(crate) fn operation_made<'v, 'a>(
             origin_of(scope, elements, source),
             capped_count(depth.value),
         )),
-        Operation::AsFifo(source) => { Ok(as_fifo_made(known, origin_of(scope, elements, source))) }
-        Operation::AsVr(source) => Ok(as_vr_made(known, origin_of(scope, elements, source))),
-        Operation::Fork(source) => Ok(fork_made(
+        Operation::AsFifo(source) => Ok(part_made(
             known,
             origin_of(scope, elements, source),
-            capped_count(channels as u128),
+            Part::AsFifo,
+        )),
+        Operation::AsVr(source) => Ok(part_made(
+            known,
+            origin_of(scope, elements, source),
+            Part::AsVr,
+        )),
+        Operation::Fork(source) => Ok(part_made(
+            known,
+            origin_of(scope, elements, source),
+            Part::Fork {
+                branches: capped_count(channels as u128),
+            },
         )),
         Operation::Join { left, right } => join_of(alloc, scope, elements, known, left, right),
         Operation::Map {
@@ -141,48 +151,16 @@ fn fifo_made<'a>(known: &KnownTypes<'a>, origin: Origin<'a>, depth: u32) -> Made
     }
 }
 
-/// FIFO signalling from valid and ready.
-fn as_fifo_made<'a>(known: &KnownTypes<'a>, origin: Origin<'a>) -> MadeElement<'a>
-    ensures { Ok (made_in known.now result) ≡ over (origin_in known.now origin.entry) (λ a. Ok (as_part P.AsFifo a)) }
+/// A part that hands on what it takes.
+fn part_made<'a>(known: &KnownTypes<'a>, origin: Origin<'a>, part: Part) -> MadeElement<'a>
+    ensures { Ok (made_in known.now result) ≡ over (origin_in known.now origin.entry) (λ a. Ok (as_part part a)) }
 {
     match known.find(origin) {
         None => unknown_made(),
         Some(ty) => MadeElement {
             ty: NewType::Passed(origin),
             element: TypedElement::Part {
-                part: Part::AsFifo,
-                width: ty.width(),
-            },
-        },
-    }
-}
-
-/// Valid and ready from FIFO signalling.
-fn as_vr_made<'a>(known: &KnownTypes<'a>, origin: Origin<'a>) -> MadeElement<'a>
-    ensures { Ok (made_in known.now result) ≡ over (origin_in known.now origin.entry) (λ a. Ok (as_part P.AsVr a)) }
-{
-    match known.find(origin) {
-        None => unknown_made(),
-        Some(ty) => MadeElement {
-            ty: NewType::Passed(origin),
-            element: TypedElement::Part {
-                part: Part::AsVr,
-                width: ty.width(),
-            },
-        },
-    }
-}
-
-/// Copies of a channel.
-fn fork_made<'a>(known: &KnownTypes<'a>, origin: Origin<'a>, branches: u32) -> MadeElement<'a>
-    ensures { Ok (made_in known.now result) ≡ over (origin_in known.now origin.entry) (λ a. Ok (as_part (P.Fork branches) a)) }
-{
-    match known.find(origin) {
-        None => unknown_made(),
-        Some(ty) => MadeElement {
-            ty: NewType::Passed(origin),
-            element: TypedElement::Part {
-                part: Part::Fork { branches },
+                part,
                 width: ty.width(),
             },
         },
@@ -385,41 +363,14 @@ fn first_octet(expression: &Expression) -> usize
 {
     match expression {
         Expression::Variable(name) => name.at,
-        Expression::Part { of, suffixes: _ } => first_octet(of.get()),
-        Expression::Literal {
-            at,
-            ty: _,
-            value: _,
-        } => *at,
-        Expression::Make {
-            at,
-            ty: _,
-            parts: _,
-        } => *at,
-        Expression::Cast { at, ty: _, of: _ } => *at,
-        Expression::Zext {
-            at,
-            width: _,
-            of: _,
-        } => *at,
-        Expression::Slice {
-            at,
-            high: _,
-            low: _,
-            of: _,
-        } => *at,
-        Expression::Not { at, of: _ } => *at,
-        Expression::Binary {
-            at,
-            operator: _,
-            left: _,
-            right: _,
-        } => *at,
-        Expression::Mux {
-            at,
-            condition: _,
-            when_one: _,
-            when_zero: _,
-        } => *at,
+        Expression::Part { of, .. } => first_octet(of.get()),
+        Expression::Literal { at, .. }
+        | Expression::Make { at, .. }
+        | Expression::Cast { at, .. }
+        | Expression::Zext { at, .. }
+        | Expression::Slice { at, .. }
+        | Expression::Not { at, .. }
+        | Expression::Binary { at, .. }
+        | Expression::Mux { at, .. } => *at,
     }
 }

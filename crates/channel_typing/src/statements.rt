@@ -54,7 +54,7 @@ fn statement_made<'v, 'a>(
     ensures { AnswersAs (made_in known.now) (statement_typed scope.now (type_at scope.now elements.now known.now) statement.now) result }
 {
     match statement {
-        Statement::Request { .. } => Ok(unknown_made()),
+        Statement::Request { .. } | Statement::Drive { .. } => Ok(unknown_made()),
         Statement::Instance {
             module,
             bindings,
@@ -71,7 +71,6 @@ fn statement_made<'v, 'a>(
             operation,
             ..
         } => operation_made(alloc, scope, elements, known, names.len(), operation),
-        Statement::Drive { .. } => Ok(unknown_made()),
     }
 }
 
@@ -117,10 +116,7 @@ fn bound_misfit<'v, 'a>(
 fn given<'b, 'a>(ty: Option<&'a EsiType>) -> Option<SourceType<'b, 'a>>
     ensures { option_map source_in result ≡ option_copied ty.entry }
 {
-    match ty {
-        Some(found) => Some(SourceType::Value(ValueType::Given(found))),
-        None => None,
-    }
+    ty.map(|found| SourceType::Value(ValueType::Given(found)))
 }
 
 /// The place of a reference, where its type is not the one that is asked.
@@ -174,9 +170,8 @@ fn drive_misfit<'v, 'a>(
     ensures { result ≡ or_else first (first_of (drive_misfits (type_at scope.now elements.now known.now) (statement.now ∷ []))) }
 {
     match statement {
-        Statement::Request { .. } => first,
-        Statement::Instance { .. } => first,
-        Statement::Channels { .. } => first,
+        Statement::Request { .. } | Statement::Instance { .. } | Statement::Channels { .. } =>
+            first,
         Statement::Drive { sink, source, .. } => match first {
             Some(at) => Some(at),
             None => misfit_unless_same(

@@ -27,7 +27,8 @@ use Rattle.design_scopes.specs.declared.declared.Declared.{Declared}
 use Rattle.design_scopes.specs.Resolving.{scope_in, AreDeclared}
 use Rattle.design_names.specs.ReferencePlaces.{body_wrong, implement_undeclared, body_undeclared}
 use Rattle.design_scopes.specs.Bodies.{referred, scope_of, AreBodies}
-use Rattle.design_names.specs.Places.{repeats_in, declaration_repeats, statement_repeats, own_named, body_ids, body_repeats, body_counts, statement_used, body_used, statement_bound, body_uses}
+use Rattle.statement_checks.specs.Counted.{body_counts}
+use Rattle.design_names.specs.Places.{repeats_in, declaration_repeats, statement_repeats, own_named, body_ids, body_repeats, statement_used, body_used, statement_bound, body_uses}
 use Rattle.design_scopes.specs.Flat.{flat_map_flat, map_flat, flat_map_of_map, map_of_map, flat_map_same, contains_flat, flat_contains}
 
 now_of : Bor Statement → Statement

@@ -27,7 +27,7 @@ use Rattle.design_scopes.specs.Tables.{port_label}
 use Rattle.design_scopes.specs.Resolving.{scope_in, AreDeclared}
 use Rattle.design_names.specs.UnusedPlaces.{missing_one, binding_label, place_where, unused_by, unbound_by, used_labels, body_unused}
 use Rattle.design_scopes.specs.Flat.{flat_map_flat, flat_map_of_map, contains_flat, flat_contains}
-use Rattle.design_names.proofs.Walks.{least_three}
+use Rattle.statement_checks.specs.Walks.{least_three}
 use Rattle.design_names.proofs.RuleLaws.{used_of, same_scope}
 
 -- ---- the walk

@@ -8,7 +8,6 @@ use Rattle.name_tables.specs.Labels.{Occurrence}
 use Rattle.name_tables.specs.Lists.{repeats}
 use Rattle.check_rules.specs.References.{named, channels_of, operation_sources, reference_named}
 use Rattle.check_rules.specs.DeclaredTwice.{declaration_spaces, statement_spaces, port_named, ids_of}
-use Rattle.check_rules.specs.Counts.{statement_counts}
 use Rattle.check_rules.specs.Uses.{bound_in}
 use Rattle.design_scopes.specs.declared.body.Body.{Body}
 
@@ -33,11 +32,6 @@ body_ids b = flat_map (λ s. ids_of s.now) b.statements
 
 abbrev pub body_repeats : Body → List ℕ
 body_repeats b = repeats (own_named b) ++ (repeats (body_ids b) ++ (repeats (map (λ n. named n.now) b.implements) ++ flat_map (λ s. statement_repeats s.now) b.statements))
-
--- ---- counts that are out of their range
-
-abbrev pub body_counts : Body → List ℕ
-body_counts b = flat_map (λ s. statement_counts s.now) b.statements
 
 -- ---- what is used twice
 

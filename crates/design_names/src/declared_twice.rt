@@ -15,7 +15,7 @@ use name_tables::{Mark, first_repeat};
 use std::alloc::Global;
 
 /// The least place at which a name is declared that was declared before in its space.
-#[tactic(auto, using(crate::proofs::Walks::least_parts))]
+#[tactic(auto, using(statement_checks::specs::Walks::least_parts))]
 pub fn first_declared_twice(
     alloc: Global,
     declarations: &[Declaration],
@@ -43,7 +43,7 @@ fn repeat_of_declarations(
 }
 
 /// The members of each bundle and the ports of each service are a space.
-#[tactic(auto, using(crate::proofs::Walks::least_more, crate::proofs::Walks::least_item))]
+#[tactic(auto, using(statement_checks::specs::Walks::least_more, statement_checks::specs::Walks::least_item))]
 fn repeat_in_declarations(
     alloc: Global,
     first: Option<usize>,
@@ -117,7 +117,7 @@ fn repeat_in_bodies(
     Ok(place)
 }
 
-#[tactic(auto, using(crate::proofs::Walks::least_parts))]
+#[tactic(auto, using(statement_checks::specs::Walks::least_parts))]
 fn repeat_in_body(
     alloc: Global,
     first: Option<usize>,
@@ -227,7 +227,7 @@ fn repeat_of_implements(
 }
 
 /// The two variables of each scan are a space.
-#[tactic(auto, using(crate::proofs::Walks::least_more))]
+#[tactic(auto, using(statement_checks::specs::Walks::least_more))]
 fn repeat_in_statements(
     alloc: Global,
     first: Option<usize>,

@@ -10,7 +10,6 @@ ghost use Rattle.check_rules.specs.Uses.{BreaksUsedTwice, BreaksUnused};
 ghost use Rattle.design_scopes.specs.Bodies.{AreBodies, DesignText, bodies_in, text_of};
 ghost use Rattle.design_scopes.specs.Resolving.{AreDeclared};
 
-use crate::counts::first_count;
 use crate::declared_twice::first_declared_twice;
 use crate::directions::first_direction;
 use crate::undeclared::first_undeclared;
@@ -21,6 +20,7 @@ use design_scopes::body::Body;
 use design_scopes::declared::Declared;
 use design_tree::{Declaration, Top};
 use esi_base::{List, NoMemory};
+use statement_checks::first_count;
 use std::alloc::Global;
 use std::marker::Model;
 

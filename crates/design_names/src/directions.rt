@@ -48,7 +48,7 @@ fn wrong_in_body<'a>(
     Ok(wrong_in_statements(first, &scope, body.statements.as_slice()))
 }
 
-#[tactic(auto, using(crate::proofs::Walks::least_more))]
+#[tactic(auto, using(statement_checks::specs::Walks::least_more))]
 fn wrong_in_statements<'a>(
     first: Option<usize>,
     scope: &ScopeNames<'_, 'a>,
@@ -89,7 +89,7 @@ fn wrong_in_statement<'a>(
     }
 }
 
-#[tactic(auto, using(crate::proofs::Walks::least_more, crate::proofs::Walks::least_item))]
+#[tactic(auto, using(statement_checks::specs::Walks::least_more, statement_checks::specs::Walks::least_item))]
 fn wrong_in_bindings<'a>(
     first: Option<usize>,
     scope: &ScopeNames<'_, 'a>,
@@ -202,7 +202,7 @@ fn outs_in_bindings<'a>(
     }
 }
 
-#[tactic(auto, using(crate::proofs::Walks::least_more, crate::proofs::Walks::least_item))]
+#[tactic(auto, using(statement_checks::specs::Walks::least_more, statement_checks::specs::Walks::least_item))]
 fn outs_of_module<'a>(
     first: Option<usize>,
     source: &ModuleNames<'a>,

@@ -2,13 +2,11 @@
 //! in n log n, whatever the text.
 #![tactic(auto)]
 
-mod counts;
 mod declared_twice;
 mod design_names;
 mod directions;
 mod undeclared;
 mod unused;
 mod used_twice;
-mod variables;
 
 pub use design_names::DesignNames;

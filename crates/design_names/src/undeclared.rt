@@ -6,7 +6,6 @@ ghost use Rattle.check_rules.specs.References.{operation_sources as sources_by};
 ghost use Rattle.check_rules.specs.Undeclared.{look_up, no_more, service_undeclared, names_undeclared as names_undeclared_by, references_undeclared as references_undeclared_by, statement_undeclared};
 ghost use Rattle.design_names.specs.ReferencePlaces.{reference_undeclared, binding_undeclared, body_undeclared, port_bundle_undeclared, bound_port_undeclared, implement_undeclared};
 
-use crate::variables::statement_variables;
 use check_rules::{Resolution, operation_sources};
 use design_scopes::body::Body;
 use design_scopes::body_names::BodyNames;
@@ -18,10 +17,11 @@ use design_scopes::services::{ServiceNames, Services};
 use design_tree::{Binding, Name, Operation, Reference, ServicePort, Statement};
 use esi_base::NoMemory;
 use name_tables::earlier;
+use statement_checks::statement_variables;
 use std::alloc::Global;
 
 /// The least place of a name that is looked up and not declared.
-#[tactic(auto, using(crate::proofs::Walks::least_parts))]
+#[tactic(auto, using(statement_checks::specs::Walks::least_parts))]
 pub fn first_undeclared<'a>(
     alloc: Global,
     declared: &Declared<'a>,
@@ -33,7 +33,7 @@ pub fn first_undeclared<'a>(
     undeclared_in_bodies(alloc, services, declared, bodies)
 }
 
-#[tactic(auto, using(crate::proofs::Walks::least_more, crate::proofs::Walks::least_item))]
+#[tactic(auto, using(statement_checks::specs::Walks::least_more, statement_checks::specs::Walks::least_item))]
 fn undeclared_in_services<'a>(bundles: &Bundles<'a>, services: &[ServiceNames<'a>]) -> Option<usize>
     ensures { result ≡ least (flat_map (service_undeclared bundles.now) services.now) }
 {
@@ -44,7 +44,7 @@ fn undeclared_in_services<'a>(bundles: &Bundles<'a>, services: &[ServiceNames<'a
     place
 }
 
-#[tactic(auto, using(crate::proofs::Walks::least_more, crate::proofs::Walks::least_item))]
+#[tactic(auto, using(statement_checks::specs::Walks::least_more, statement_checks::specs::Walks::least_item))]
 fn undeclared_in_service<'a>(
     first: Option<usize>,
     bundles: &Bundles<'a>,
@@ -100,7 +100,7 @@ fn undeclared_in_bodies<'a>(
     Ok(place)
 }
 
-#[tactic(auto, using(crate::proofs::Walks::least_parts))]
+#[tactic(auto, using(statement_checks::specs::Walks::least_parts))]
 fn undeclared_in_body<'a>(
     alloc: Global,
     first: Option<usize>,
@@ -119,7 +119,7 @@ fn undeclared_in_body<'a>(
     Ok(undeclared_implements(place, &declared.services, body.implements.as_slice()))
 }
 
-#[tactic(auto, using(crate::proofs::Walks::least_more))]
+#[tactic(auto, using(statement_checks::specs::Walks::least_more))]
 fn undeclared_implements<'a>(
     first: Option<usize>,
     services: &Services<'a>,
@@ -134,7 +134,7 @@ fn undeclared_implements<'a>(
     place
 }
 
-#[tactic(auto, using(crate::proofs::Walks::least_more))]
+#[tactic(auto, using(statement_checks::specs::Walks::least_more))]
 fn undeclared_in_statements<'a>(
     first: Option<usize>,
     scope: &ScopeNames<'_, 'a>,
@@ -149,7 +149,7 @@ fn undeclared_in_statements<'a>(
     place
 }
 
-#[tactic(auto, using(crate::proofs::Walks::least_left))]
+#[tactic(auto, using(statement_checks::specs::Walks::least_left))]
 fn undeclared_in_statement<'a>(
     first: Option<usize>,
     scope: &ScopeNames<'_, 'a>,
@@ -199,7 +199,7 @@ fn undeclared_service_port<'a>(
     }
 }
 
-#[tactic(auto, using(crate::proofs::Walks::least_more, crate::proofs::Walks::least_item))]
+#[tactic(auto, using(statement_checks::specs::Walks::least_more, statement_checks::specs::Walks::least_item))]
 fn undeclared_bound_ports<'a>(
     first: Option<usize>,
     source: &ModuleNames<'a>,
@@ -247,7 +247,7 @@ fn undeclared_references<'a>(
     }
 }
 
-#[tactic(auto, using(crate::proofs::Walks::least_more, crate::proofs::Walks::least_item))]
+#[tactic(auto, using(statement_checks::specs::Walks::least_more, statement_checks::specs::Walks::least_item))]
 fn undeclared_bindings<'a>(
     first: Option<usize>,
     scope: &ScopeNames<'_, 'a>,

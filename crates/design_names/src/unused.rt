@@ -39,7 +39,7 @@ pub fn first_unused<'a>(
     Ok(place)
 }
 
-#[tactic(auto, using(crate::proofs::Walks::least_three))]
+#[tactic(auto, using(statement_checks::specs::Walks::least_three))]
 fn unused_in_body<'a>(
     alloc: Global,
     first: Option<usize>,
@@ -75,7 +75,7 @@ fn keys_of<'a>(alloc: Global, marks: &[Mark<'a>]) -> Result<List<Key<'a>>, NoMem
     Ok(keys)
 }
 
-#[tactic(auto, using(crate::proofs::Walks::least_more, crate::proofs::Walks::least_item))]
+#[tactic(auto, using(statement_checks::specs::Walks::least_more, statement_checks::specs::Walks::least_item))]
 fn unused_ports<'a>(
     first: Option<usize>,
     used: &NameTable<'a>,
@@ -90,7 +90,7 @@ fn unused_ports<'a>(
     place
 }
 
-#[tactic(auto, using(crate::proofs::Walks::least_more, crate::proofs::Walks::least_item))]
+#[tactic(auto, using(statement_checks::specs::Walks::least_more, statement_checks::specs::Walks::least_item))]
 fn unused_names<'a>(first: Option<usize>, used: &NameTable<'a>, names: &'a [Name]) -> Option<usize>
     ensures { result ≡ least_from first (flat_map (λ n. missing_one used.now (named n)) names.now) }
 {
@@ -112,7 +112,7 @@ fn unused_name<'a>(first: Option<usize>, used: &NameTable<'a>, name: &'a Name) -
     }
 }
 
-#[tactic(auto, using(crate::proofs::Walks::least_more))]
+#[tactic(auto, using(statement_checks::specs::Walks::least_more))]
 fn unused_of_statements<'a>(
     first: Option<usize>,
     declared: &Declared<'a>,
@@ -230,7 +230,7 @@ fn is_out(port: &ModulePort) -> bool
     }
 }
 
-#[tactic(auto, using(crate::proofs::Walks::least_more))]
+#[tactic(auto, using(statement_checks::specs::Walks::least_more))]
 fn unbound_in_statements<'a>(
     alloc: Global,
     first: Option<usize>,

@@ -25,7 +25,7 @@ pub fn first_used_twice(alloc: Global, bodies: &[Body<'_>]) -> Result<Option<usi
     Ok(place)
 }
 
-#[tactic(auto, using(crate::proofs::Walks::least_parts))]
+#[tactic(auto, using(statement_checks::specs::Walks::least_parts))]
 fn use_in_body(
     alloc: Global,
     first: Option<usize>,
@@ -96,7 +96,7 @@ fn push_taken<'a>(marks: &mut List<Mark<'a>>, operation: &'a Operation) -> Resul
 }
 
 /// The ports that an instance binds.
-#[tactic(auto, using(crate::proofs::Walks::least_more))]
+#[tactic(auto, using(statement_checks::specs::Walks::least_more))]
 fn bound_in_statements(
     alloc: Global,
     first: Option<usize>,

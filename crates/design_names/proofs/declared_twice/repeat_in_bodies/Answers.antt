@@ -1,5 +1,5 @@
 use Rattle.design_names.specs.Places.{body_repeats}
-use Rattle.design_names.proofs.Walks.{least_item}
+use Rattle.statement_checks.specs.Walks.{least_item}
 use Rattle.design_names.proofs.declared_twice.repeat_in_bodies.Goals as goal
 
 pub loop-body-preserved : goal.loop-body-preserved

@@ -1,6 +1,6 @@
 use Rattle.std.specs.Prelude.{None}
 use Rattle.design_names.specs.ReferencePlaces.{body_wrong}
-use Rattle.design_names.proofs.Walks.{least_item}
+use Rattle.statement_checks.specs.Walks.{least_item}
 use Rattle.design_names.proofs.directions.first_direction.Goals as goal
 
 pub loop-body-preserved : goal.loop-body-preserved

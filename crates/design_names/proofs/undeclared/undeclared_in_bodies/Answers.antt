@@ -1,5 +1,5 @@
 use Rattle.design_names.specs.ReferencePlaces.{body_undeclared}
-use Rattle.design_names.proofs.Walks.{least_item}
+use Rattle.statement_checks.specs.Walks.{least_item}
 use Rattle.design_names.proofs.undeclared.undeclared_in_bodies.Goals as goal
 
 pub loop-body-preserved : goal.loop-body-preserved

@@ -1,6 +1,6 @@
 use Rattle.std.specs.Prelude.{None}
 use Rattle.design_names.specs.UnusedPlaces.{body_unused}
-use Rattle.design_names.proofs.Walks.{least_item}
+use Rattle.statement_checks.specs.Walks.{least_item}
 use Rattle.design_names.proofs.unused.first_unused.Goals as goal
 
 pub loop-body-preserved : goal.loop-body-preserved

@@ -1,4 +1,4 @@
-use Rattle.design_names.proofs.Walks.{if_ok_then}
+use Rattle.statement_checks.specs.Walks.{if_ok_then}
 use Rattle.design_names.proofs.UnusedSteps.{unused_step}
 use Rattle.design_names.proofs.unused.unused_in_body.Goals as goal
 

@@ -1,6 +1,6 @@
 use Rattle.std.specs.Prelude.{None}
 use Rattle.design_names.specs.Places.{body_uses}
-use Rattle.design_names.proofs.Walks.{least_item}
+use Rattle.statement_checks.specs.Walks.{least_item}
 use Rattle.design_names.proofs.used_twice.first_used_twice.Goals as goal
 
 pub loop-body-preserved : goal.loop-body-preserved

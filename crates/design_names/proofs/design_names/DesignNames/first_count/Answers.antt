@@ -2,7 +2,7 @@ use Rattle.std.proofs.Common.{subst, ap, ◌∙◌}
 use Rattle.std.specs.List.{flat_map}
 use Rattle.name_tables.specs.FirstPlaces.{Reports, least}
 use Rattle.check_rules.specs.Counts.{BreaksCounts}
-use Rattle.design_names.specs.Places.{body_counts}
+use Rattle.statement_checks.specs.Counted.{body_counts}
 use Rattle.design_scopes.specs.Bodies.{bodies_in}
 use Rattle.design_names.proofs.RuleLaws.{reports_counts}
 use Rattle.design_names.proofs.design_names.DesignNames.first_count.Goals as goal

@@ -1,7 +1,7 @@
 use Rattle.std.proofs.Common.{subst, ap, ◌∙◌}
 use Rattle.std.specs.Prelude.{IfOk}
 use Rattle.std.specs.List.{flat_map}
-use Rattle.design_names.proofs.Walks.{if_ok_then}
+use Rattle.statement_checks.specs.Walks.{if_ok_then}
 use Rattle.name_tables.specs.FirstPlaces.{Reports, least}
 use Rattle.check_rules.specs.Directions.{BreaksDirections}
 use Rattle.design_names.specs.ReferencePlaces.{body_wrong}

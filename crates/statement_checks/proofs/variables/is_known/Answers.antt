@@ -1,7 +1,7 @@
 use Rattle.std.proofs.Common.{◌≡◌, true, sym, ◌∙◌}
 use Rattle.check_rules.specs.Scopes.{is_name}
-use Rattle.design_names.proofs.VariableSteps.{known_at}
-use Rattle.design_names.proofs.variables.is_known.Goals as goal
+use Rattle.statement_checks.proofs.VariableSteps.{known_at}
+use Rattle.statement_checks.proofs.variables.is_known.Goals as goal
 
 pub returns-then-eq : goal.returns-then-eq
 returns-then-eq c =

@@ -1,7 +1,7 @@
 use Rattle.std.specs.Prelude.{None}
-use Rattle.design_names.specs.Places.{body_counts}
-use Rattle.design_names.proofs.Walks.{least_item}
-use Rattle.design_names.proofs.counts.first_count.Goals as goal
+use Rattle.statement_checks.specs.Counted.{body_counts}
+use Rattle.statement_checks.specs.Walks.{least_item}
+use Rattle.statement_checks.proofs.counts.first_count.Goals as goal
 
 pub loop-body-preserved : goal.loop-body-preserved
 loop-body-preserved c =

@@ -1,6 +1,6 @@
 use Rattle.design_scopes.specs.Bodies.{referred}
-use Rattle.design_names.proofs.VariableSteps.{make_done}
-use Rattle.design_names.proofs.variables.+expression_variables.Goals as goal
+use Rattle.statement_checks.proofs.VariableSteps.{make_done}
+use Rattle.statement_checks.proofs.variables.+expression_variables.Goals as goal
 
 pub returns-after-loop-part : goal.returns-after-loop-part
 returns-after-loop-part t c =

@@ -2,7 +2,7 @@
 ghost use Rattle.std.specs.Prelude.{◌≡◌, flat_map};
 ghost use Rattle.name_tables.specs.FirstPlaces.{least, least_from};
 ghost use Rattle.check_rules.specs.Counts.{outside, statement_counts, operation_counts};
-ghost use Rattle.design_names.specs.Places.{body_counts};
+ghost use Rattle.statement_checks.specs.Counted.{body_counts};
 
 use check_rules::{MAX_BRANCHES, MAX_DEPTH, MAX_STAGES, MIN_BRANCHES, MIN_DEPTH, MIN_STAGES};
 use design_scopes::body::Body;
@@ -10,7 +10,7 @@ use design_tree::{Number, Operation, Statement};
 use name_tables::earlier;
 
 /// The least place at which a count is out of its range. It takes no memory.
-#[tactic(auto, using(crate::proofs::Walks::least_more))]
+#[tactic(auto, using(crate::specs::Walks::least_more))]
 pub fn first_count(bodies: &[Body<'_>]) -> Option<usize>
     ensures { result ≡ least (flat_map body_counts bodies.now) }
 {
@@ -22,7 +22,7 @@ pub fn first_count(bodies: &[Body<'_>]) -> Option<usize>
 }
 
 /// The least such place in a body, or the one found before.
-#[tactic(auto, using(crate::proofs::Walks::least_more))]
+#[tactic(auto, using(crate::specs::Walks::least_more))]
 fn body_count(first: Option<usize>, body: &Body<'_>) -> Option<usize>
     ensures { result ≡ least_from first (body_counts body.now) }
 {

@@ -41,7 +41,7 @@ fn operation_variables(first: Option<usize>, operation: &Operation) -> Option<us
 
 /// The least place of a variable that is none of the known ones, or the place found before. It goes as deep
 /// as expressions stand inside one another.
-#[tactic(auto, using(crate::proofs::VariableSteps::variable_step, crate::proofs::VariableSteps::part_step, crate::proofs::VariableSteps::literal_step, crate::proofs::VariableSteps::make_step, crate::proofs::VariableSteps::cast_step, crate::proofs::VariableSteps::zext_step, crate::proofs::VariableSteps::slice_step, crate::proofs::VariableSteps::not_step, crate::proofs::VariableSteps::binary_step, crate::proofs::VariableSteps::mux_step, crate::proofs::Walks::least_more, crate::proofs::Walks::least_item))]
+#[tactic(auto, using(crate::proofs::VariableSteps::variable_step, crate::proofs::VariableSteps::part_step, crate::proofs::VariableSteps::literal_step, crate::proofs::VariableSteps::make_step, crate::proofs::VariableSteps::cast_step, crate::proofs::VariableSteps::zext_step, crate::proofs::VariableSteps::slice_step, crate::proofs::VariableSteps::not_step, crate::proofs::VariableSteps::binary_step, crate::proofs::VariableSteps::mux_step, crate::specs::Walks::least_more, crate::specs::Walks::least_item))]
 fn expression_variables(
     first: Option<usize>,
     known: &[&Name],
