@@ -1,0 +1,4 @@
+pub mod Elements
+pub mod Weights
+pub mod RowLaws
+pub mod WeightLaws
