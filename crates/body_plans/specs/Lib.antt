@@ -1,0 +1,4 @@
+pub mod Channels
+pub mod DriveViews
+pub mod Plans
+pub mod Views
