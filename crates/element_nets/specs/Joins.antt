@@ -12,7 +12,7 @@ use Rattle.net_lists.specs.Lists.{StandFrom, Carries}
 use Rattle.net_lists.specs.ListLaws.{stand_first}
 use Rattle.net_lists.specs.Runs.{bit_of, carried, IsNetRun}
 use Rattle.net_lists.specs.RunLemmas.{computed_word, word_in, bit_word, and_bits}
-use Rattle.net_lists.specs.Passing.{ObeysAlone, passing_obeys}
+use Rattle.net_lists.specs.Passing.{ObeysAlone, RunsAlone, passing_runs, alone_obeys}
 use Rattle.element_nets.specs.declared.join.JoinNets.{JoinNets}
 
 -- v = And lv rv; d = Concat ld rd
@@ -47,9 +47,14 @@ abbrev pub JoinsObey : Type 0
 JoinsObey = (plan : Plan) (s : JoinNets) (ready forward backward : ℕ) (offers history : List (List Bits)) → HasJoin plan s ready forward backward → IsNetRun plan offers history
     → ObeysAlone join (join_input s backward) (λ k. carried (record { valid = forward; word = forward + 1; ready = ready })) history
 
-pub joins_do_obey : JoinsObey
-joins_do_obey plan s ready forward backward offers history has run =
-    passing_obeys plan offers history join _ _ refl
+abbrev pub join_output : ℕ → ℕ → ℕ → Channel (List Bits)
+join_output forward ready k = carried (record { valid = forward; word = forward + 1; ready = ready })
+
+-- A join that stands in a netlist is a join in each cycle of a run.
+pub joins_do_run : (plan : Plan) (s : JoinNets) (ready forward backward : ℕ) (offers history : List (List Bits)) → HasJoin plan s ready forward backward → IsNetRun plan offers history
+    → RunsAlone join (join_input s backward) (join_output forward ready) history
+joins_do_run plan s ready forward backward offers history has run =
+    passing_runs plan offers history join (join_input s backward) (join_output forward ready) refl
     (λ earlier words c.
     let lv = bit_word plan earlier words s.left_valid c has.left.wide in
     let rv = bit_word plan earlier words s.right_valid c has.right.wide in
@@ -60,3 +65,6 @@ joins_do_obey plan s ready forward backward offers history has run =
     let r = word_in plan earlier words backward (join_backward s ready) 1 (And ready s.left_valid) c has.back refl refl ∙ and_bits _ _ _ _ out lv in
     record { valid = ap bit_of v; word = d; left_ready = ap bit_of l; right_ready = ap bit_of r })
     run
+
+pub joins_do_obey : JoinsObey
+joins_do_obey plan s ready forward backward offers history has run = alone_obeys join (join_input s backward) (join_output forward ready) history refl (joins_do_run plan s ready forward backward offers history has run)

@@ -4,10 +4,11 @@ use Rattle.netlist.specs.declared.formula.Formula.{Formula}
 use Rattle.netlist.specs.Nets.{Bits}
 use Rattle.netlist.specs.Plans.{Plan}
 use Rattle.netlist.specs.Formulas.{worth}
+use Rattle.element_laws.specs.Histories.{Channel}
 use Rattle.element_laws.specs.Elements.Element.{map_by}
 use Rattle.net_lists.specs.Lists.{StandFrom}
 use Rattle.net_lists.specs.Runs.{ChannelNets, carried, IsNetRun}
-use Rattle.net_lists.specs.Passing.{ObeysAlone, passing_obeys}
+use Rattle.net_lists.specs.Passing.{ObeysAlone, RunsAlone, passing_runs, alone_obeys}
 use Rattle.formula_nets.specs.Making.{formula_nets, formula_net, formula_size}
 use Rattle.formula_nets.specs.MadeLaws.{formulas_do_compute}
 
@@ -26,8 +27,20 @@ abbrev pub MapsObey : Type 0
 MapsObey = (plan : Plan) (input : ChannelNets) (body : Formula) (width at : ℕ) (offers history : List (List Bits)) → HasMap plan input body width at → IsNetRun plan offers history
     → ObeysAlone (map_by (map_of body)) (λ k. carried input) (λ k. carried (record { valid = input.valid; word = formula_net (input.word ∷ []) body at; ready = input.ready })) history
 
-pub maps_do_obey : MapsObey
-maps_do_obey plan input body width at offers history has run =
-    passing_obeys plan offers history (map_by (map_of body)) _ _ refl
+-- the channels between which it stands
+abbrev pub map_input : ChannelNets → ℕ → Channel (List Bits)
+map_input input k = carried input
+
+abbrev pub map_output : ChannelNets → Formula → ℕ → ℕ → Channel (List Bits)
+map_output input body at k = carried (record { valid = input.valid; word = formula_net (input.word ∷ []) body at; ready = input.ready })
+
+-- A map that stands in a netlist is a map in each cycle of a run.
+pub maps_do_run : (plan : Plan) (input : ChannelNets) (body : Formula) (width at : ℕ) (offers history : List (List Bits)) → HasMap plan input body width at → IsNetRun plan offers history
+    → RunsAlone (map_by (map_of body)) (map_input input) (map_output input body at) history
+maps_do_run plan input body width at offers history has run =
+    passing_runs plan offers history (map_by (map_of body)) (map_input input) (map_output input body at) refl
     (λ earlier words c. record { valid = refl; word = formulas_do_compute plan (input.word ∷ []) body width at c.inputs _ words has.good has.nets c.settled; ready = refl })
     run
+
+pub maps_do_obey : MapsObey
+maps_do_obey plan input body width at offers history has run = alone_obeys (map_by (map_of body)) (map_input input) (map_output input body at) history refl (maps_do_run plan input body width at offers history has run)

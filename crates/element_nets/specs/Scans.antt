@@ -10,7 +10,7 @@ use Rattle.netlist.specs.Formulas.{worth}
 use Rattle.element_laws.specs.Histories.{Channel, KeepsOffers, reached}
 use Rattle.element_laws.specs.Elements.{Contents}
 use Rattle.element_laws.specs.Elements.Element.{scan_by}
-use Rattle.element_laws.specs.Laws.{Obeys}
+use Rattle.element_laws.specs.Laws.{Obeys, IsElementRun}
 use Rattle.element_laws.specs.ElementLemmas.{each_obeys}
 use Rattle.element_wires.specs.Wires.{IsWired}
 use Rattle.element_wires.specs.WireLemmas.{wires_make_runs}
@@ -95,13 +95,19 @@ module _ (plan : Plan) (s : ScanNets) (reset : Bits) (word : ℕ) (body : Formul
   scan_begins [] words c = ap (λ w. let now : Contents = record { held = []; state = w; flags = [] } in now) (register_word plan [] words s.register (next + 1) reset c has.register has.next_state)
   scan_begins (old ∷ earlier) words c = ap (λ w. let now : Contents = record { held = []; state = w; flags = [] } in now) (register_word plan (old ∷ earlier) words s.register (next + 1) reset c has.register has.next_state)
 
-pub scans_do_obey : ScansObey
-scans_do_obey plan s reset word body width at next offers history has run keeps =
+-- A scan that stands in a netlist is a scan in each cycle of a run.
+pub scans_do_run : (plan : Plan) (s : ScanNets) (reset : Bits) (word : ℕ) (body : Formula) (width at next : ℕ) (offers history : List (List Bits)) → HasScan plan s reset word body width at next → IsNetRun plan offers history
+    → IsElementRun (scan_by (step_of body) reset) (with_state s.register) (with_state (next + 1)) (λ k. scan_input s word) (λ k. scan_output s) history
+scans_do_run plan s reset word body width at next offers history has run =
     let element = scan_by (step_of body) reset in
     let wires = run_of plan (λ words. IsWired element (with_state s.register words) (with_state (next + 1) words) (λ k. scan_input s word words) (λ k. scan_output s words)) (with_state s.register) (with_state (next + 1)) (record { held = []; state = reset; flags = [] })
     (λ earlier words c. (scan_wired plan s reset word body width at next has earlier words c, scan_begins plan s reset word body width at next has earlier words c)) history (run_cycles plan offers history run) in
-    each_obeys element (with_state s.register) (with_state (next + 1)) (λ k. scan_input s word) (λ k. scan_output s) history
-    (wires_make_runs element (with_state s.register) (with_state (next + 1)) (λ k. scan_input s word) (λ k. scan_output s) history wires) (λ k below. keeps)
+    wires_make_runs element (with_state s.register) (with_state (next + 1)) (λ k. scan_input s word) (λ k. scan_output s) history wires
+
+pub scans_do_obey : ScansObey
+scans_do_obey plan s reset word body width at next offers history has run keeps =
+    each_obeys (scan_by (step_of body) reset) (with_state s.register) (with_state (next + 1)) (λ k. scan_input s word) (λ k. scan_output s) history
+    (scans_do_run plan s reset word body width at next offers history has run) (λ k below. keeps)
 
 -- ---- what the pushes ask
 

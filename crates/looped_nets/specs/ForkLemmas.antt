@@ -7,12 +7,13 @@ use Rattle.netlist.specs.Plans.{Plan, Stands, IsPlan}
 use Rattle.element_laws.specs.Histories.{reached}
 use Rattle.element_laws.specs.Elements.{Contents, every, flag}
 use Rattle.element_laws.specs.Elements.Element.{fork}
+use Rattle.element_laws.specs.Laws.{IsElementRun}
 use Rattle.element_laws.specs.ElementLemmas.{each_obeys}
 use Rattle.element_wires.specs.Wires.{IsWired}
 use Rattle.element_wires.specs.WireLemmas.{wires_make_runs}
 use Rattle.net_lists.specs.Lists.{StandFrom}
 use Rattle.net_lists.specs.ListLaws.{stand_first}
-use Rattle.net_lists.specs.Runs.{bit_of, bit_at, IsNetCycle}
+use Rattle.net_lists.specs.Runs.{bit_of, bit_at, IsNetRun, IsNetCycle}
 use Rattle.net_lists.specs.RunLemmas.{register_word, run_cycles, run_of, computed_word, word_in, bit_word, and_bits, or_bits, not_bits}
 use Rattle.looped_nets.specs.Loops.{nets_upto, turn_stands, firsts_same, firsts_at, firsts_one}
 use Rattle.looped_nets.specs.Forks.{ForkNets, branches, branch_nets, wait_nets, chain, chain_nets, fork_ready, taken_nets, flag_place, flag_nets, HasFork, with_flags, fork_input, fork_output, ForksObey}
@@ -119,12 +120,19 @@ module _ (plan : Plan) (kept : IsPlan plan) (s : ForkNets) (has : HasFork plan s
       (firsts_same (λ j. bit_at (s.registers + j) words) (λ j. bit_at (flag_place s j + 2) old) (branches s)
       (λ i lt. ap bit_of (register_word plan (old ∷ earlier) words (s.registers + i) (flag_place s i + 2) (false ∷ []) c (register_stands i lt) (has.next_flag i lt))))
 
-pub forks_do_obey : ForksObey
-forks_do_obey plan s offers history has run keeps =
+-- A fork that stands in a netlist is a fork in each cycle of a run.
+pub forks_do_run : (plan : Plan) (s : ForkNets) (offers history : List (List Bits)) → HasFork plan s → IsNetRun plan offers history
+    → IsElementRun (fork (branches s)) (with_flags s (λ j. s.registers + j)) (with_flags s (λ j. flag_place s j + 2)) (λ k. fork_input s) (fork_output s) history
+forks_do_run plan s offers history has run =
     let kept = run.complete.plan_kept in
     let element = fork (branches s) in
     let before = with_flags s (λ j. s.registers + j) in
     let after = with_flags s (λ j. flag_place s j + 2) in
     let wires = run_of plan (λ words. IsWired element (before words) (after words) (λ k. fork_input s words) (λ k. fork_output s k words)) before after (record { held = []; state = []; flags = replicate (branches s) false })
     (λ earlier words c. (fork_wired plan kept s has earlier words c, begins plan kept s has earlier words c)) history (run_cycles plan offers history run) in
-    each_obeys element before after (λ k. fork_input s) (fork_output s) history (wires_make_runs element before after (λ k. fork_input s) (fork_output s) history wires) (λ k below. keeps)
+    wires_make_runs element before after (λ k. fork_input s) (fork_output s) history wires
+
+pub forks_do_obey : ForksObey
+forks_do_obey plan s offers history has run keeps =
+    each_obeys (fork (branches s)) (with_flags s (λ j. s.registers + j)) (with_flags s (λ j. flag_place s j + 2)) (λ k. fork_input s) (fork_output s) history
+    (forks_do_run plan s offers history has run) (λ k below. keeps)
