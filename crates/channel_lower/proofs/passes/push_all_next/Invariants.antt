@@ -1,0 +1,11 @@
+use Rattle.std.proofs.Common.{◌≡◌, length}
+use Rattle.channel_lower.specs.Lowerable.{place_of}
+use Rattle.channel_lower.specs.Lowering.{next_pass}
+use Rattle.channel_lower.specs.Progress.{Progress}
+use Rattle.channel_lower.proofs.passes.push_all_next.Given as goal
+
+abbrev pub invariant-loop-number : goal.invariant-loop-number
+invariant-loop-number l = record {
+  is : l.lowering ≡ next_pass l.parts l.flat.elements l.number l.initial.lowering;
+  so_far : Progress l.parts l.flat l.clients l.lowering (place_of l.servers l.flat.elements (length l.flat.elements)) (length l.clients) (length l.flat.elements) (length l.flat.elements) (length l.flat.elements) l.number;
+}

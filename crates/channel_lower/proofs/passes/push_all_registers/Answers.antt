@@ -1,0 +1,9 @@
+use Rattle.std.proofs.Common.{length, arith}
+use Rattle.netlist.specs.declared.limits.TheConstants.{MAX_NETS}
+use Rattle.channel_lower.specs.Lowering.{register_turn, element_at, part_of}
+use Rattle.channel_lower.specs.Long.{too_long, registers_grow}
+use Rattle.channel_lower.proofs.passes.push_all_registers.Goals as goal
+
+pub returns-in-Err-clause-too_many : goal.returns-in-Err-clause-too_many
+returns-in-Err-clause-too_many c =
+    λ e. too_long (λ k. register_turn (part_of c.args.parts.now (element_at c.args.flat.now.elements k))) c.args.lowering.now c.loop-number.lowering c.loop-number.number (length c.args.flat.now.elements) MAX_NETS (registers_grow c.args.parts.now c.args.flat.now.elements) (let lt = c.loop-number-test.true in let end = c.len-number-end.ensures in omega (arith, lt, end)) c.loop-number.invariant.is (c.in-Err.ensures.too_many e)

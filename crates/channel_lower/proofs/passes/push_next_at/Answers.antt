@@ -1,0 +1,19 @@
+use Rattle.netlist.specs.declared.limits.TheConstants.{MAX_NETS}
+use Rattle.net_lists.specs.ListLaws.{on_ok}
+use Rattle.channel_lower.specs.Lowering.{element_at, part_of}
+use Rattle.channel_lower.specs.Done.{next_may, next_done}
+use Rattle.channel_lower.specs.Long.{next_long}
+use Rattle.channel_lower.proofs.passes.push_next_at.Goals as goal
+
+pub push_next-requires-clause-ready : goal.push_next-requires-clause-ready
+push_next-requires-clause-ready c =
+    next_may c.args.parts.now c.args.flat.now c.args.servers c.args.clients.now c.requires.lowerable c.args.lowering.now c.len-kept.ensures.kept c.args.number c.requires.number c.requires.so_far c.part_at-part.result.now c.part_at-part.ensures
+
+pub returns-clause-so_far : goal.returns-clause-so_far
+returns-clause-so_far c =
+    on_ok c.push_next.result _ _
+    (next_done c.args.parts.now c.args.flat.now c.args.servers c.args.clients.now c.requires.lowerable c.args.lowering.now c.len-kept.ensures.kept c.args.number c.requires.number c.requires.so_far c.part_at-part.result.now c.part_at-part.ensures c.push_next.new.lowering)
+    c.push_next.ensures.pushed
+
+pub returns-clause-too_many : goal.returns-clause-too_many
+returns-clause-too_many c = λ e. next_long (part_of c.args.parts.now (element_at c.args.flat.now.elements c.args.number)) c.part_at-part.result.now c.args.number MAX_NETS c.args.lowering.now c.part_at-part.ensures (c.push_next.ensures.too_many e)

@@ -1,0 +1,14 @@
+pub mod Done
+pub mod Examples
+pub mod Growth
+pub mod Long
+pub mod Lowerable
+pub mod Lowering
+pub mod Numbers
+pub mod Owed
+pub mod Plain
+pub mod Ports
+pub mod Progress
+pub mod Steps
+pub mod Turned
+pub mod Whole
