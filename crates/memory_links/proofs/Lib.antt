@@ -1,0 +1,4 @@
+pub mod ChangedConns
+pub mod HeldLaws
+pub mod PlayLaws
+pub mod StepsLeft

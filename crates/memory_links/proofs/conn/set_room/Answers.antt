@@ -1,0 +1,10 @@
+use Rattle.memory_links.specs.Conns.{with_room}
+use Rattle.std.proofs.Common.{sym}
+use Rattle.memory_links.proofs.ChangedConns.{changed_set, changed_past}
+use Rattle.memory_links.proofs.conn.set_room.Goals as goal
+
+pub returns-then-conn-conns : goal.returns-then-conn-conns
+returns-then-conn-conns c = changed_set c.args.conn (with_room c.args.octets) c.args.conns.now c.index-conns-conn.result c.if-conn-conns.true
+
+pub returns-else-conn-conns : goal.returns-else-conn-conns
+returns-else-conn-conns c = sym (changed_past c.args.conn (with_room c.args.octets) c.args.conns.now c.if-conn-conns.false)
