@@ -1,0 +1,12 @@
+pub mod Acts
+pub mod Attachments
+pub mod Calls
+pub mod Connections
+pub mod Histories
+pub mod Journal
+pub mod Legal
+pub mod Log
+pub mod Machines
+pub mod Prefixes
+pub mod Served
+pub mod Streams
