@@ -7,16 +7,17 @@ use Rattle.cycle_rules.specs.Rings.{ring_at, front_of, has_room}
 use Rattle.cycle_rules.specs.declared.limits.TheConstants.{SESSION_VALUES}
 use Rattle.h2_history.specs.Standing.{may_put}
 use Rattle.serve_acts.specs.Acts.{Act}
-use Rattle.serve_acts.specs.Acts.Act.{Sends, Drops, Arrives, Ends, Takes, Refuses, Lists, Attaches, Hands, Puts, Finishes, Settles, Cycles}
+use Rattle.serve_acts.specs.Acts.Act.{Sends, Drops, Arrives, Ends, Takes, Refuses, Declines, Lists, Attaches, Hands, Puts, Finishes, Settles, Cycles}
 use Rattle.serve_acts.specs.Attachments.{Attachment, newest, is_free}
 use Rattle.serve_acts.specs.Calls.{is_of, calls, taken, waiting, is_withdrawn}
 use Rattle.serve_acts.specs.Connections.{is_connected, is_turned_away}
 use Rattle.serve_acts.specs.Histories.{standing, unsent, is_broken, is_cut}
 use Rattle.serve_acts.specs.Machines.{machine, is_settled, has_handed}
 use Rattle.serve_acts.specs.Prefixes.{Begins}
-use Rattle.serve_acts.specs.Served.{Served}
+use Rattle.serve_acts.specs.Served.{Served, is_failure}
 use Rattle.serve_acts.specs.Streams.{Held, held, is_replied}
 use Rattle.serve_acts.specs.declared.call.Call.{Call}
+use Rattle.serve_acts.specs.declared.decline.Decline.{Decline}
 
 -- no call came on the stream yet, and no reply was begun
 pub record IsNew (conn stream : ℕ) (t : List Act) : Type 0 where
@@ -46,6 +47,11 @@ pub record MayTake {S : Type 0} (served : Served S) (call : Call) (t : List Act)
 pub record MayRefuse {S : Type 0} (served : Served S) (call : Call) (t : List Act) : Type 0 where
   pub due : IsDue served call t
   pub full : SESSION_VALUES ≤ length (taken t)
+
+-- a call of a new stream is answered by a status that says that it failed
+pub record MayDecline (conn stream : ℕ) (decline : Decline) (t : List Act) : Type 0 where
+  pub is_new : IsNew conn stream t
+  pub failed : is_failure decline ≡ true
 
 -- a stream is attached to a channel to which no other is
 pub record MayAttach {S : Type 0} (served : Served S) (channel conn stream : ℕ) (t : List Act) : Type 0 where
@@ -90,6 +96,7 @@ Allowed served (Arrives call) t = MayArrive served call t
 Allowed served (Ends conn stream) t = is_cut served.replies conn stream t ≡ true
 Allowed served (Takes call) t = MayTake served call t
 Allowed served (Refuses call) t = MayRefuse served call t
+Allowed served (Declines conn stream flow decline) t = MayDecline conn stream decline t
 Allowed served (Lists conn stream flow text) t = IsNew conn stream t
 Allowed served (Attaches channel conn stream flow) t = MayAttach served channel conn stream t
 Allowed served (Hands channel conn stream word) t = MayHand served channel conn stream word t

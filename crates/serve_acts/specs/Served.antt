@@ -1,8 +1,14 @@
 -- What is served: a circuit between the rings, and what is written in replies.
-use Rattle.std.specs.Prelude.{ℕ, Bool, List}
+use Rattle.std.specs.Prelude.{ℕ, ◌==◌, not, Bool, true, List}
 use Rattle.cycle_rules.specs.Circuit.{Bits, Circuit}
 use Rattle.hpack.specs.declared.header.Header.{Header}
 use Rattle.serve_acts.specs.declared.decline.Decline.{Decline}
+use Rattle.serve_acts.specs.declared.decline.Decline.TheVariants.{Http, Status}
+
+-- the status says that the call failed: that of gRPC is OK where it is 0
+abbrev pub is_failure : Decline → Bool
+is_failure (Http status) = true
+is_failure (Status status) = not (status == 0)
 
 -- the header lists and messages of replies
 pub record Replies : Type 0 where

@@ -1,7 +1,7 @@
 -- What a server has to send on each stream to which it replies.
 use Rattle.std.specs.Prelude.{ℕ, ◌==◌, ◌&&◌, Bool, true, false, Option, Some, None, List, [], ◌∷◌, ◌++◌, length, drop, if◌then◌else◌}
 use Rattle.serve_acts.specs.Acts.{Act}
-use Rattle.serve_acts.specs.Acts.Act.{Ends, Takes, Lists, Attaches, Hands, Puts, Finishes}
+use Rattle.serve_acts.specs.Acts.Act.{Ends, Takes, Declines, Lists, Attaches, Hands, Puts, Finishes}
 use Rattle.serve_acts.specs.Served.{Replies}
 
 -- a reply that was begun and not ended: its octets that were not put, and whether trailers follow them
@@ -48,4 +48,11 @@ is_replied c s [] = false
 is_replied c s (Takes call ∷ t) = if is_stream call.conn call.stream c s then true else is_replied c s t
 is_replied c s (Lists conn stream flow text ∷ t) = if is_stream conn stream c s then true else is_replied c s t
 is_replied c s (Attaches channel conn stream flow ∷ t) = if is_stream conn stream c s then true else is_replied c s t
+is_replied c s (Declines conn stream flow decline ∷ t) = if is_stream conn stream c s then true else is_replied c s t
 is_replied c s (act ∷ t) = is_replied c s t
+
+-- its trailers were put
+abbrev pub is_finished : ℕ → ℕ → List Act → Bool
+is_finished c s [] = false
+is_finished c s (Finishes conn stream ∷ t) = if is_stream conn stream c s then true else is_finished c s t
+is_finished c s (act ∷ t) = is_finished c s t

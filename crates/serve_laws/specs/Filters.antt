@@ -64,7 +64,7 @@ module _ {A : Type 0} (p q : A → Bool) where
   none_filtered_by : (b c : Bool) (x : A) (xs : List A) → p x ≡ b → q x ≡ c → (list_any p xs ≡ false → list_any p (filter q xs) ≡ false) → (b || list_any p xs) ≡ false → list_any p (filter q (x ∷ xs)) ≡ false
   none_filtered_by true c x xs e f rest none = cc
   none_filtered_by false true x xs e f rest none = simp (e, f) (rest none)
-  none_filtered_by false false x xs e f rest none = simp (e, f) (rest none)
+  none_filtered_by false false x xs e f rest none = simp f (rest none)
 
   pub none_filtered : (xs : List A) → list_any p xs ≡ false → list_any p (filter q xs) ≡ false
   none_filtered [] none = refl

@@ -43,7 +43,7 @@ pub either_none : (b c : Bool) → (b || c) ≡ false → (b ≡ false) × (c �
 either_none true c e = cc
 either_none false c e = (refl, e)
 
-itself : (n : ℕ) → (n == n) ≡ true
+pub itself : (n : ℕ) → (n == n) ≡ true
 itself n = eq-eqb n n refl
 
 module _ (p : Call → Bool) where

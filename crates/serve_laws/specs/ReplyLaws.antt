@@ -4,17 +4,20 @@ use Rattle.std.specs.List.{list_any}
 use Rattle.std.proofs.Math.Seq.{drop-append_seam}
 use Rattle.cycle_rules.specs.Circuit.{Bits}
 use Rattle.serve_acts.specs.Acts.{Act}
-use Rattle.serve_acts.specs.Acts.Act.{Arrives, Ends, Takes, Lists, Attaches, Hands, Puts, Finishes}
+use Rattle.serve_acts.specs.Acts.Act.{Arrives, Ends, Takes, Declines, Lists, Attaches, Hands, Puts, Finishes}
 use Rattle.serve_acts.specs.Attachments.{attachment, handed_to}
 use Rattle.serve_acts.specs.Calls.{is_of, calls, taken, is_taken}
 use Rattle.serve_acts.specs.Legal.{IsLegal, IsNew}
 use Rattle.serve_acts.specs.Prefixes.{Begins}
 use Rattle.serve_acts.specs.Served.{Served}
-use Rattle.serve_acts.specs.Streams.{Held, is_stream, held, given, data_put, is_replied}
+use Rattle.serve_acts.specs.Streams.{Held, is_stream, held, given, data_put, is_replied, is_finished}
 use Rattle.serve_acts.specs.declared.call.Call.{Call}
 use Rattle.serve_laws.specs.Filters.{any_joined}
 use Rattle.serve_laws.specs.OnceLaws.{new_at, are_one, in_calls, untaken, either_none}
 use Rattle.serve_laws.specs.Replying.{Fits}
+
+none_some : {A : Type 0} (there : Option A) (x : A) → there ≡ None → there ≡ Some x → ⊥
+none_some there x e f = cc
 
 module _ {S : Type 0} (served : Served S) where
   -- ---- no reply is begun on a stream with a call whose value was not taken
@@ -46,6 +49,7 @@ module _ {S : Type 0} (served : Served S) where
   unreplied c s (Takes call ∷ t) legal any none = takes_by (is_stream call.conn call.stream c s) c s call t refl (λ g. unreplied c s t legal.1 any g) none
   unreplied c s (Lists conn stream flow text ∷ t) legal any none = begins_by (is_stream conn stream c s) conn stream c s t refl legal.0 any (unreplied c s t legal.1 any none)
   unreplied c s (Attaches channel conn stream flow ∷ t) legal any none = begins_by (is_stream conn stream c s) conn stream c s t refl legal.0.is_new any (unreplied c s t legal.1 any none)
+  unreplied c s (Declines conn stream flow decline ∷ t) legal any none = begins_by (is_stream conn stream c s) conn stream c s t refl legal.0.is_new any (unreplied c s t legal.1 any none)
   unreplied c s (act ∷ t) legal any none = unreplied c s t legal.1 any none
 
   -- so a reply begins with the take
@@ -112,6 +116,9 @@ module _ {S : Type 0} (served : Served S) where
       let is = unbegun (is_stream conn stream c s) (is_replied c s t) none in
       let old = fresh c s t legal.1 is.1 in
       record { nothing_held = rw is.0 old.nothing_held; nothing_given = old.nothing_given; nothing_put = old.nothing_put; nothing_attached = rw is.0 old.nothing_attached; nothing_handed = old.nothing_handed }
+  fresh c s (Declines conn stream flow decline ∷ t) legal none =
+      let old = fresh c s t legal.1 (unbegun (is_stream conn stream c s) (is_replied c s t) none).1 in
+      record { nothing_held = old.nothing_held; nothing_given = old.nothing_given; nothing_put = old.nothing_put; nothing_attached = old.nothing_attached; nothing_handed = old.nothing_handed }
   fresh c s (Hands channel conn stream word ∷ t) legal none = fresh_hands (is_stream conn stream c s) channel conn stream word c s t refl legal.0.idle (fresh c s t legal.1 none)
   fresh c s (Puts conn stream octets ∷ t) legal none = fresh_puts (is_stream conn stream c s) conn stream octets c s t legal.0.there refl legal.0.is_held (fresh c s t legal.1 none)
   fresh c s (Finishes conn stream ∷ t) legal none =
@@ -135,7 +142,7 @@ module _ {S : Type 0} (served : Served S) where
       let one = are_one conn stream c s e in
       subst (λ (n : ℕ). P n stream) (sym one.conn_is) (subst (λ (n : ℕ). P c n) (sym one.stream_is) is)
 
-  back : (P : ℕ → ℕ → Type 0) (conn stream c s : ℕ) → is_stream conn stream c s ≡ true → P conn stream → P c s
+  pub back : (P : ℕ → ℕ → Type 0) (conn stream c s : ℕ) → is_stream conn stream c s ≡ true → P conn stream → P c s
   back P conn stream c s e is =
       let one = are_one conn stream c s e in
       subst (λ (n : ℕ). P n s) one.conn_is (subst (λ (n : ℕ). P conn n) one.stream_is is)
@@ -203,3 +210,38 @@ module _ {S : Type 0} (served : Served S) where
 
   pub put_of_given : (c s : ℕ) (t : List Act) → IsLegal served t → Begins (data_put c s t) (given served.replies c s t)
   put_of_given c s t legal = none_fits (given served.replies c s t) (data_put c s t) (held served.replies c s t) (fits c s t legal)
+
+  -- ---- trailers are put on streams to which a reply was begun, so on those of a list or of a value that was taken
+
+  finishes_by : (b : Bool) (c s conn stream : ℕ) (t : List Act) (there : Held) → is_stream conn stream c s ≡ b → IsLegal served t → held served.replies conn stream t ≡ Some there
+      → (is_finished c s t ≡ true → is_replied c s t ≡ true) → cond b true (is_finished c s t) ≡ true → is_replied c s t ≡ true
+  finishes_by true c s conn stream t there e legal is rest any = replied_by (is_replied c s t) refl
+    where
+      replied_by : (r : Bool) → is_replied c s t ≡ r → is_replied c s t ≡ true
+      replied_by true f = f
+      replied_by false f =
+          let here : held served.replies c s t ≡ Some there = back (λ m n. held served.replies m n t ≡ Some there) conn stream c s e is in
+          absurd (none_some (held served.replies c s t) there (fresh c s t legal f).nothing_held here)
+  finishes_by false c s conn stream t there e legal is rest any = rest any
+
+  one_or : (b rest : Bool) → rest ≡ true → cond b true rest ≡ true
+  one_or true rest e = refl
+  one_or false rest e = e
+
+  pub finished_replied : (c s : ℕ) (t : List Act) → IsLegal served t → is_finished c s t ≡ true → is_replied c s t ≡ true
+  finished_replied c s [] legal any = cc
+  finished_replied c s (Takes call ∷ t) legal any = one_or (is_stream call.conn call.stream c s) (is_replied c s t) (finished_replied c s t legal.1 any)
+  finished_replied c s (Declines conn stream flow decline ∷ t) legal any = one_or (is_stream conn stream c s) (is_replied c s t) (finished_replied c s t legal.1 any)
+  finished_replied c s (Lists conn stream flow text ∷ t) legal any = one_or (is_stream conn stream c s) (is_replied c s t) (finished_replied c s t legal.1 any)
+  finished_replied c s (Attaches channel conn stream flow ∷ t) legal any = one_or (is_stream conn stream c s) (is_replied c s t) (finished_replied c s t legal.1 any)
+  finished_replied c s (Finishes conn stream ∷ t) legal any =
+      finishes_by (is_stream conn stream c s) c s conn stream t (record { unsent = []; ends = true }) refl legal.1 legal.0 (λ e. finished_replied c s t legal.1 e) any
+  finished_replied c s (act ∷ t) legal any = finished_replied c s t legal.1 any
+
+  -- so the value of a call whose trailers were put was taken
+  pub finished_taken : (c s : ℕ) (t : List Act) → IsLegal served t → list_any (is_of c s) (calls t) ≡ true → is_finished c s t ≡ true → is_taken c s t ≡ true
+  finished_taken c s t legal called finished = taken_by (is_taken c s t) refl
+    where
+      taken_by : (b : Bool) → is_taken c s t ≡ b → is_taken c s t ≡ true
+      taken_by true e = e
+      taken_by false e = absurd (true≢false (sym (finished_replied c s t legal finished) ∙ unreplied c s t legal called e))

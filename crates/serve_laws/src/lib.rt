@@ -2,8 +2,14 @@
 //! here but the laws themselves, which do nothing when they run. `S` is what the circuit consists of.
 #![tactic(auto)]
 
+pub mod octets;
 pub mod order;
+pub mod prefix;
 pub mod replies;
+pub mod rings;
 
+pub use octets::every_octet_law;
 pub use order::{arrival_law, taken_once_law};
-pub use replies::reply_law;
+pub use prefix::{prefix_law, stream_function_law};
+pub use replies::{ok_law, reply_law};
+pub use rings::rings_law;
