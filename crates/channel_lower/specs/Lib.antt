@@ -1,5 +1,6 @@
 pub mod Done
 pub mod Examples
+pub mod Fitted
 pub mod Growth
 pub mod Long
 pub mod Lowerable

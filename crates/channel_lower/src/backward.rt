@@ -1,7 +1,7 @@
 //! The third pass: backward nets in reverse element order.
-ghost use Rattle.std.specs.Prelude.{◌≡◌, ℕ, ◌+◌, ◌<◌, ◌≤◌, length, get_or, map, OnOk, IfOk, IsErrOf};
+ghost use Rattle.std.specs.Prelude.{◌≡◌, ℕ, ◌+◌, ◌<◌, ◌≤◌, length, map, OnOk, IfOk, IsErrOf};
 ghost use Rattle.part_nets.specs.Passes.{input_count, output_count, ready_at, backward_nets, MayGoBack};
-ghost use Rattle.channel_lower.specs.Lowering.{backward_turn, laid_of, readies_at, channel_at, with_readies, ready_turn, turns};
+ghost use Rattle.channel_lower.specs.Lowering.{backward_turn, laid_of, readies_at, channel_at, with_readies};
 
 use crate::lowering::Lowering;
 use esi_base::{List, NoMemory};

@@ -1,5 +1,5 @@
 //! The second pass: forward nets in element order.
-ghost use Rattle.std.specs.Prelude.{◌≡◌, ℕ, ◌+◌, ◌<◌, ◌≤◌, ◌^◌, length, get_or, map, OnOk, IfOk, IsErrOf};
+ghost use Rattle.std.specs.Prelude.{◌≡◌, ◌+◌, ◌<◌, ◌≤◌, length, get_or, OnOk, IfOk, IsErrOf};
 ghost use Rattle.part_nets.specs.Passes.{input_count, wire_at, forward_nets, laid_at, MayGoForward};
 ghost use Rattle.channel_lower.specs.Lowering.{forward_turn, wires_at};
 

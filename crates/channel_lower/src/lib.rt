@@ -3,6 +3,7 @@
 
 mod backward;
 mod forward;
+mod laws;
 pub mod lowered;
 pub mod lowering;
 mod next;
@@ -11,6 +12,7 @@ mod ports;
 mod registers;
 mod whole;
 
+pub use laws::fitting_lists_can_be_lowered;
 pub use lowered::{Lowered, Port};
 pub use lowering::Lowering;
 pub use whole::lower;

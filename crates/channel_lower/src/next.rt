@@ -1,5 +1,5 @@
 //! The last pass: next nets in element order.
-ghost use Rattle.std.specs.Prelude.{◌≡◌, ℕ, ◌+◌, ◌<◌, ◌≤◌, length, OnOk, IsErrOf};
+ghost use Rattle.std.specs.Prelude.{◌≡◌, ◌+◌, ◌<◌, length, OnOk, IsErrOf};
 ghost use Rattle.part_nets.specs.Passes.{input_count, output_count, next_nets, MayGoOn};
 ghost use Rattle.channel_lower.specs.Lowering.{next_turn, laid_of};
 

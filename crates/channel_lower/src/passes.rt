@@ -1,8 +1,7 @@
 //! The passes, element by element.
-ghost use Rattle.std.specs.Prelude.{◌≡◌, ℕ, ◌+◌, ◌-◌, ◌<◌, ◌≤◌, length, get_or, OnOk, IsErrOf};
-ghost use Rattle.netlist.specs.Plans.{IsPlan};
+ghost use Rattle.std.specs.Prelude.{◌≡◌, ◌+◌, ◌-◌, ◌<◌, length, get_or, OnOk, IsErrOf};
 ghost use Rattle.channel_lower.specs.Lowerable.{IsLowerable, place_of};
-ghost use Rattle.channel_lower.specs.Lowering.{element_at, part_of, channel_at, from_end, server_turn, client_turn, register_turn, forward_turn, backward_turn, next_turn, server_pass, client_pass, register_pass, forward_pass, backward_pass, next_pass};
+ghost use Rattle.channel_lower.specs.Lowering.{element_at, part_of, channel_at, server_turn, client_turn, register_turn, forward_turn, backward_turn, next_turn, server_pass, client_pass, register_pass, forward_pass, backward_pass, next_pass};
 ghost use Rattle.channel_lower.specs.Progress.{Progress};
 
 use crate::backward::push_backward;

@@ -1,8 +1,8 @@
 //! The inputs of the ports.
-ghost use Rattle.std.specs.Prelude.{◌≡◌, ◌+◌, ◌<◌, ◌≤◌, [], ◌∷◌, length, get_or, OnOk, IsErrOf};
+ghost use Rattle.std.specs.Prelude.{◌≡◌, ◌+◌, ◌<◌, length, OnOk, IsErrOf};
 ghost use Rattle.netlist.specs.declared.net.Net.TheVariants.{Input};
 ghost use Rattle.netlist.specs.Plans.{IsWidth};
-ghost use Rattle.channel_lower.specs.Lowering.{server_turn, client_turn, turns};
+ghost use Rattle.channel_lower.specs.Lowering.{server_turn, client_turn};
 
 use crate::lowering::Lowering;
 use net_lists::push_nets;

@@ -1,5 +1,5 @@
 //! The first pass: registers in element order.
-ghost use Rattle.std.specs.Prelude.{◌≡◌, ◌+◌, ◌<◌, ◌≤◌, length, OnOk, IsErrOf};
+ghost use Rattle.std.specs.Prelude.{◌≡◌, ◌+◌, ◌<◌, length, OnOk, IsErrOf};
 ghost use Rattle.netlist.specs.Parts.{IsGoodPart};
 ghost use Rattle.part_nets.specs.Passes.{register_nets};
 ghost use Rattle.channel_lower.specs.Lowering.{register_turn};
