@@ -1,0 +1,2 @@
+pub mod DesignLaws
+pub mod Planning
