@@ -1,4 +1,5 @@
 pub mod ControlFrames
+pub mod Examples
 pub mod Filters
 pub mod Flow
 pub mod FlowLaws
