@@ -10,6 +10,8 @@ pub mod Order
 pub mod OrderLaws
 pub mod PrefixLaws
 pub mod ReplyLaws
+pub mod Replay
+pub mod ReplayLaws
 pub mod Replying
 pub mod RingLaws
 pub mod Rings

@@ -17,7 +17,7 @@ use Rattle.serve_laws.specs.Rings.{word_moved, words_offered, words_out, word_ta
 use Rattle.serve_acts.specs.Calls.{is_on, taken}
 use Rattle.serve_laws.specs.Filters.{filter_joined}
 
-length_each : {A : Type 0} (count : ℕ) (f : ℕ → A) → length (each count f) ≡ count
+pub length_each : {A : Type 0} (count : ℕ) (f : ℕ → A) → length (each count f) ≡ count
 length_each zero f = refl
 length_each (suc count) f = ap suc (length_each count (λ k. f (suc k)))
 

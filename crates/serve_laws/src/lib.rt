@@ -5,11 +5,13 @@
 pub mod octets;
 pub mod order;
 pub mod prefix;
+pub mod replay;
 pub mod replies;
 pub mod rings;
 
 pub use octets::every_octet_law;
 pub use order::{arrival_law, taken_once_law};
 pub use prefix::{prefix_law, stream_function_law};
+pub use replay::replay_law;
 pub use replies::{ok_law, reply_law};
 pub use rings::rings_law;
