@@ -37,13 +37,58 @@ STATIC_TABLE = [
 ]
 STATIC_TABLE = [(name.encode(), value.encode()) for name, value in STATIC_TABLE]
 
-# The Huffman code is not what these cases are about: its texts are those of RFC 7541, Appendix C.4.
-HUFFMAN_TEXTS = {
-    bytes.fromhex("f1e3c2e5f23a6ba0ab90f4ff"): b"www.example.com",
-    bytes.fromhex("a8eb10649cbf"): b"no-cache",
-    bytes.fromhex("25a849e95ba97d7f"): b"custom-key",
-    bytes.fromhex("25a849e95bb8e8b4bf"): b"custom-value",
+# The Huffman code (RFC 7541, Appendix B): the symbols by the length of their words. 256 is the end of string.
+PRINTABLE = {
+    5: "012aceiost", 6: " %-./3456789=A_bdfghlmnpru", 7: ":BCDEFGHIJKLMNOPQRSTUVWYjkqvwxyz", 8: "&*,;XZ", 10: "!\"()?", 11: "'+|", 12: "#>",
+    13: "$@[]~", 14: "^}", 15: "<`{", 19: "\\",
 }
+OTHERS = {
+    13: [0], 19: [195, 208], 20: [128, 130, 131, 162, 184, 194, 224, 226],
+    21: [153, 161, 167, 172, 176, 177, 179, 209, 216, 217, 227, 229, 230],
+    22: [129, 132, 133, 134, 136, 146, 154, 156, 160, 163, 164, 169, 170, 173, 178, 181, 185, 186, 187, 189, 190, 196, 198, 228, 232, 233],
+    23: [1, 135, 137, 138, 139, 140, 141, 143, 147, 149, 150, 151, 152, 155, 157, 158, 165, 166, 168, 174, 175, 180, 182, 183, 188, 191, 197,
+         231, 239],
+    24: [9, 142, 144, 145, 148, 159, 171, 206, 215, 225, 236, 237], 25: [199, 207, 234, 235],
+    26: [192, 193, 200, 201, 202, 205, 210, 213, 218, 219, 238, 240, 242, 243, 255],
+    27: [203, 204, 211, 212, 214, 221, 222, 223, 241, 244, 245, 246, 247, 248, 250, 251, 252, 253, 254],
+    28: [*range(2, 9), 11, 12, *range(14, 22), *range(23, 32), 127, 220, 249], 30: [10, 13, 22, 256],
+}
+END_OF_STRING = 256
+
+
+def huffman_words():
+    """The word of each symbol, as bits: words of one length are consecutive, and longer ones come after shorter ones."""
+    words, code, before = {}, 0, 0
+    for length in range(5, 31):
+        code <<= length - before
+        before = length
+        for symbol in sorted([ord(character) for character in PRINTABLE.get(length, "")] + OTHERS.get(length, [])):
+            words[symbol] = format(code, f"0{length}b")
+            code += 1
+    assert len(words) == 257 and code == 2**30
+    return words
+
+
+HUFFMAN = huffman_words()
+HUFFMAN_SYMBOLS = {word: symbol for symbol, word in HUFFMAN.items()}
+
+
+def huffman_coded(text):
+    bits = "".join(HUFFMAN[octet] for octet in text)
+    bits += "1" * (-len(bits) % 8)
+    return bytes(int(bits[at:at + 8], 2) for at in range(0, len(bits), 8))
+
+
+def huffman_text(octets):
+    text, word = b"", ""
+    for bit in "".join(format(octet, "08b") for octet in octets):
+        word += bit
+        if word in HUFFMAN_SYMBOLS:
+            require(HUFFMAN_SYMBOLS[word] != END_OF_STRING, COMPRESSION_ERROR)
+            text += bytes([HUFFMAN_SYMBOLS[word]])
+            word = ""
+    require(len(word) < 8 and "0" not in word, COMPRESSION_ERROR)
+    return text
 
 
 class BrokenRule(Exception):
@@ -61,25 +106,37 @@ def size_of(header):
     return len(header[0]) + len(header[1]) + ENTRY_OVERHEAD
 
 
-class Decoder:
-    """The header blocks of one direction."""
+class Table:
+    """The dynamic table of one direction, the newest entry first."""
 
     def __init__(self):
         self.entries = []
         self.limit = LARGEST_TABLE
 
-    def evict(self):
+    def resize(self, limit):
+        self.limit = limit
         while sum(map(size_of, self.entries)) > self.limit:
             self.entries.pop()
+
+    def insert(self, header):
+        self.entries.insert(0, header)
+        self.resize(self.limit)
+
+
+class Decoder:
+    """The header blocks of one direction, as they are read."""
+
+    def __init__(self):
+        self.table = Table()
 
     def entry(self, index):
         if index == 0:
             raise BrokenRule(COMPRESSION_ERROR)
         if index <= len(STATIC_TABLE):
             return STATIC_TABLE[index - 1]
-        if index - len(STATIC_TABLE) > len(self.entries):
+        if index - len(STATIC_TABLE) > len(self.table.entries):
             raise BrokenRule(COMPRESSION_ERROR)
-        return self.entries[index - len(STATIC_TABLE) - 1]
+        return self.table.entries[index - len(STATIC_TABLE) - 1]
 
     def integer(self, bits):
         full = 2**bits - 1
@@ -108,7 +165,7 @@ class Decoder:
             raise BrokenRule(COMPRESSION_ERROR)
         text = self.octets[self.at:self.at + count]
         self.at += count
-        return HUFFMAN_TEXTS[text] if coded else text
+        return huffman_text(text) if coded else text
 
     def block(self, octets):
         self.octets, self.at = octets, 0
@@ -121,8 +178,7 @@ class Decoder:
                 limit = self.integer(5)
                 if limit > LARGEST_TABLE:
                     raise BrokenRule(COMPRESSION_ERROR)
-                self.limit = limit
-                self.evict()
+                self.table.resize(limit)
                 continue
             if first >= 128:
                 header = self.entry(self.integer(7))
@@ -134,28 +190,65 @@ class Decoder:
             if sum(map(size_of, headers)) > LARGEST_LIST:
                 raise BrokenRule(ENHANCE_YOUR_CALM)
             if 64 <= first < 128:
-                self.entries.insert(0, header)
-                self.evict()
+                self.table.insert(header)
         return headers
 
 
 class Encoder:
-    """The plain blocks that an end writes: a size update to 0 before the first field, and literals without indexing."""
+    """The header blocks of one direction, as they are written: by the least index that serves, strings coded where that is shorter."""
 
     def __init__(self):
-        self.begun = False
+        self.table = Table()
+        self.allowed = []
+
+    def allow(self, limit):
+        """The peer allows a maximum size of the table."""
+        self.allowed.append(min(limit, LARGEST_TABLE))
 
     def block(self, headers):
-        octets = b"" if self.begun else b"\x20"
-        self.begun = True
-        for name, value in headers:
-            octets += b"\0" + plain_string(name) + plain_string(value)
-        return octets
+        octets = b""
+        if self.allowed:
+            if min(self.allowed) < self.table.limit:
+                octets += self.update(min(self.allowed))
+            if self.allowed[-1] != self.table.limit:
+                octets += self.update(self.allowed[-1])
+            self.allowed = []
+        return octets + b"".join(self.field(header) for header in headers)
+
+    def update(self, limit):
+        self.table.resize(limit)
+        return prefixed_integer(0x20, 5, limit)
+
+    def field(self, header):
+        entries = STATIC_TABLE + self.table.entries
+        if header in entries:
+            return prefixed_integer(0x80, 7, entries.index(header) + 1)
+        names = [name for name, _ in entries]
+        index = names.index(header[0]) + 1 if header[0] in names else 0
+        joins = size_of(header) <= self.table.limit
+        octets = prefixed_integer(0x40, 6, index) if joins else prefixed_integer(0x00, 4, index)
+        if joins:
+            self.table.insert(header)
+        return octets + (b"" if index else string_octets(header[0])) + string_octets(header[1])
 
 
-def plain_string(text):
-    assert len(text) < 127
-    return bytes([len(text)]) + text
+def prefixed_integer(mark, bits, value):
+    full = 2**bits - 1
+    if value < full:
+        return bytes([mark + value])
+    value -= full
+    octets = bytes([mark + full])
+    while value >= 128:
+        octets += bytes([128 + value % 128])
+        value //= 128
+    return octets + bytes([value])
+
+
+def string_octets(text):
+    code = huffman_coded(text)
+    if len(code) < len(text):
+        return prefixed_integer(0x80, 7, len(code)) + code
+    return prefixed_integer(0x00, 7, len(text)) + text
 
 
 # ---- header lists (RFC 9113, sections 8.2 and 8.3)
@@ -498,6 +591,8 @@ class Connection:
                     row.send += more
             elif name == MAX_CONCURRENT_STREAMS:
                 self.most = value
+            elif name == HEADER_TABLE_SIZE:
+                self.encoder.allow(value)
         self.put(SETTINGS, ACK, 0, b"")
 
     def read_push(self, flags, stream, payload, events):

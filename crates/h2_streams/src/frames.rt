@@ -138,8 +138,9 @@ impl Conn {
         reported(verdict, None)
     }
 
-    /// SETTINGS.
+    /// SETTINGS, on a connection that goes on.
     fn read_settings(&mut self, settings: &[Setting])
+        requires going { self.old.broken ≡ none }
         ensures { record { left = self.new; event = none } ≡ frame_read (frames.Settings settings.now) self.old }
     {
         match self.settle(settings) {
@@ -158,8 +159,9 @@ impl Conn {
         }
     }
 
-    /// Any frame.
+    /// Any frame, on a connection that goes on.
     pub(crate) fn read_frame(&mut self, frame: Frame) -> Result<Option<CallEvent>, NoMemory>
+        requires going { self.old.broken ≡ none }
         ensures { IfOk result (λ event. record { left = self.new; event = event } ≡ frame_read frame self.old) }
     {
         match frame {

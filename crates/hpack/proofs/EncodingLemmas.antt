@@ -4,9 +4,8 @@ use Rattle.std.proofs.lemmas.Bool.{lt-ltb, le-ltb, cond-true, cond-false}
 use Rattle.std.proofs.lemmas.List.{append_assoc, append-nil, take_at}
 use Rattle.std.proofs.Math.Nat.{pow-succ'}
 use Rattle.hpack.specs.Integers.{full_prefix}
-use Rattle.hpack.specs.Encoding.{groups_of, integer_of}
 use Rattle.hpack.specs.Extends.{Extends}
-use Rattle.hpack.specs.Indexing.{marked, integer_with}
+use Rattle.hpack.specs.Encoding.{groups_of, integer_of, marked, integer_with}
 
 pub extends_none : (old new : List ℕ) → new ≡ old → Extends old new
 extends_none old new same = record { more = []; whole = same ∙ sym (append-nil old) }

@@ -4,9 +4,9 @@ pub mod Decoding
 pub mod Encoding
 pub mod Examples
 pub mod Extends
-pub mod Indexing
 pub mod IntegerReading
 pub mod Integers
+pub mod Known
 pub mod Laws
 pub mod Readers
 pub mod RepresentationReading

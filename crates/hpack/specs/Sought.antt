@@ -3,7 +3,7 @@ use Rattle.std.specs.Prelude.{Bool}
 use Rattle.hpack.specs.declared.header.Header.{Header}
 use Rattle.hpack.specs.declared.sought.Sought.{Sought}
 use Rattle.hpack.specs.declared.sought.Sought.TheVariants.{Field, Name}
-use Rattle.hpack.specs.Indexing.{is_field, has_name}
+use Rattle.hpack.specs.Encoding.{is_field, has_name}
 
 abbrev pub passes : Sought → Header → Header → Bool
 passes Field header entry = is_field header entry

@@ -1,7 +1,7 @@
 //! The dynamic table (RFC 7541, sections 2.3.2 and 4).
 ghost use Rattle.std.specs.Prelude.{◌≡◌, ◌<◌, ◌≤◌, ◌+◌, IfOk, OnOk, length, slice_get};
 ghost use Rattle.std.specs.Option.{option_copied};
-ghost use Rattle.hpack.specs.Indexing.{first_index, joins};
+ghost use Rattle.hpack.specs.Encoding.{first_index, joins};
 ghost use Rattle.hpack.specs.Sought.{passes};
 ghost use Rattle.hpack.specs.Tables.{size_of, list_size, fitting, table_with, table_limited, new_table};
 

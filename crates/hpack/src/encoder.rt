@@ -1,53 +1,61 @@
 //! The encoder of the header blocks for a peer.
-ghost use Rattle.std.specs.Prelude.{◌≡◌, ◌<◌, ◌≤◌, ◌^◌, ◌++◌, ◌∷◌, [], length, IfOk, OnOk, OnErr};
-ghost use Rattle.hpack.specs.Tables.{size_of, list_size};
+ghost use Rattle.std.specs.Prelude.{◌≡◌, ◌≤◌, ◌++◌, IsTrue, IfOk, OnOk, OnErr, min};
+ghost use Rattle.hpack.specs.Tables.{list_size};
 ghost use Rattle.hpack.specs.Blocks.{IsBlock};
 ghost use Rattle.hpack.specs.Extends.{Extends};
-ghost use Rattle.hpack.specs.Integers.{full_prefix};
-ghost use Rattle.hpack.specs.Encoding.{new_writing, with_peer_limit, encoded_block, writing_after, table_after, update_due, plain_fields, plain_field, string_of, integer_of, groups_of};
+ghost use Rattle.hpack.specs.declared.limits.TheConstants.{MAX_TABLE_SIZE};
+ghost use Rattle.hpack.specs.Encoding.{AreTexts, new_writing, with_peer_limit, encoded_block, writing_after, IsTold};
 
+use crate::dynamic_table::DynamicTable;
+use crate::fields::{write_fields, write_known, write_size};
 use crate::header::{Header, Headers};
-use crate::integer::full_prefix;
-use crate::limits::{MAX_HEADER_LIST_SIZE, STRING_BITS};
+use crate::limits::{MAX_HEADER_LIST_SIZE, MAX_TABLE_SIZE};
 use esi_base::{NoMemory, Octets};
 use std::alloc::Global;
 use std::marker::Model;
 
-/// A size update to 0 (RFC 7541, section 6.3).
-const UPDATE_TO_ZERO: u8 = 0x20;
-
-/// A literal without indexing whose name is a string (RFC 7541, section 6.2.2).
-const LITERAL_OF_NEW_NAME: u8 = 0;
-
-/// Writes the header blocks of one direction of a connection, in order.
+/// Writes the header blocks of one direction of a connection, in order. Contracts see its table, which
+/// is the peer's too, and what it has still to tell of the maximum sizes that the peer allowed.
 #[derive(Debug, Drop)]
 pub struct Encoder {
-    begun: bool,
+    alloc: Global,
+    table: DynamicTable,
+    least: usize,
+    last: usize,
 }
 
 impl Model for Encoder {
-    ghost use Rattle.hpack.specs.Integers.{full_prefix};
-    ghost use Rattle.hpack.specs.Encoding.{Writing};
+    ghost use Rattle.hpack.specs.Encoding.{Writing, IsWriting};
 
     ghost Value = { Writing };
 
-    ghost view = { λ e. record { begun = e.begun } };
+    ghost view = { λ e. record { table = e.table; least = e.least; last = e.last } };
+
+    ghost invariant = { λ e. IsWriting (record { table = e.table; least = e.least; last = e.last }) };
 }
 
 impl Encoder {
     /// An encoder that has written no block.
-    pub fn new(_alloc: Global) -> Result<Encoder, NoMemory>
+    #[tactic(auto, using(crate::proofs::BlockBack::new_kept))]
+    pub fn new(alloc: Global) -> Result<Encoder, NoMemory>
         ensures { IfOk result (λ encoder. encoder ≡ new_writing) }
     {
-        Ok(Encoder { begun: false })
+        Ok(Encoder {
+            alloc,
+            table: DynamicTable::new(alloc),
+            least: MAX_TABLE_SIZE,
+            last: MAX_TABLE_SIZE,
+        })
     }
 
-    /// Takes the maximum size of the table that the peer allows (SETTINGS_HEADER_TABLE_SIZE). It takes
-    /// no memory, and leaves what is written unchanged, since no entry is ever added.
+    /// Takes the maximum size of the table that the peer allows (SETTINGS_HEADER_TABLE_SIZE). The next
+    /// block tells the peer what changes by it. It takes no memory.
     pub fn limit(&mut self, peer: u32)
         ensures { self.new ≡ with_peer_limit peer self.old }
     {
-        let _ = peer;
+        let allowed = (peer as usize).min(MAX_TABLE_SIZE);
+        self.least = self.least.min(allowed);
+        self.last = allowed;
     }
 
     /// Adds at the end of `out` the block of headers. It fails only when it runs out of memory, and then
@@ -57,107 +65,99 @@ impl Encoder {
         ensures written { OnOk result (out.new ≡ out.old ++ encoded_block self.old headers.now) }
         ensures after { OnOk result (self.new ≡ writing_after self.old headers.now) }
         // What it adds is read back as the same headers, and leaves the peer's table as the encoder's.
-        ensures read_back { IsBlock (table_after self.old) (encoded_block self.old headers.now)
-            headers.now (table_after (writing_after self.old headers.now)) }
+        ensures read_back { AreTexts headers.now → IsBlock self.old.table (encoded_block self.old headers.now)
+            headers.now (writing_after self.old headers.now).table }
         ensures unchanged { OnErr result ((out.new ≡ out.old) × (self.new ≡ self.old)) }
     {
+        let _ = &self.alloc;
+        if !self.is_told() {
+            return self.changing_block(headers.as_slice(), out);
+        }
         let end = out.len();
-        match write_block(self.begun, headers.as_slice(), out) {
-            Ok(()) => {
-                self.begun = true;
-                Ok(())
-            }
+        match self.told_block(headers.as_slice(), out) {
+            Ok(()) => Ok(()),
             Err(NoMemory) => {
                 out.truncate(end);
                 Err(NoMemory)
             }
         }
     }
-}
 
-/// Writes the block of an encoder that has written a block before, or none.
-fn write_block(begun: bool, headers: &[Header], out: &mut Octets) -> Result<(), NoMemory>
-    requires { list_size headers.now ≤ MAX_HEADER_LIST_SIZE }
-    ensures written { OnOk result (out.new
-        ≡ out.old ++ (update_due (record { begun = begun }) ++ plain_fields headers.now)) }
-    ensures extends { OnErr result (Extends out.old out.new) }
-{
-    if !begun {
-        write_octet(UPDATE_TO_ZERO, out)?;
+    /// Whether the peer has been told the maximum size, which is the table's.
+    fn is_told(&self) -> bool
+        ensures { IsTrue result → IsTold self.now }
+    {
+        let limit = self.table.limit();
+        self.least == limit && self.last == limit
     }
-    write_fields(headers, out)
-}
 
-/// Writes headers, each as a literal without indexing.
-fn write_fields(headers: &[Header], out: &mut Octets) -> Result<(), NoMemory>
-    requires { list_size headers.now ≤ MAX_HEADER_LIST_SIZE }
-    ensures written { OnOk result (out.new ≡ out.old ++ plain_fields headers.now) }
-    ensures extends { OnErr result (Extends out.old out.new) }
-{
-    for header in headers {
-        match write_field(header, out) {
-            Ok(()) => {}
-            Err(NoMemory) => return Err(NoMemory),
+    /// Adds a block before which nothing is to be told. The table is copied only where a field is no entry.
+    #[tactic(auto, using(crate::proofs::IndexLaws::all_known, crate::proofs::IndexLaws::all_stays, crate::proofs::IndexLaws::rest_known, crate::proofs::IndexLaws::rest_stays))]
+    fn told_block(&mut self, headers: &[Header], out: &mut Octets) -> Result<(), NoMemory>
+        requires told { IsTold self.old }
+        requires small { list_size headers.now ≤ MAX_HEADER_LIST_SIZE }
+        ensures written { OnOk result (out.new ≡ out.old ++ encoded_block self.old headers.now) }
+        ensures after { OnOk result (self.new ≡ writing_after self.old headers.now) }
+        ensures extends { OnErr result (Extends out.old out.new) }
+        ensures unchanged { OnErr result (self.new ≡ self.old) }
+    {
+        let known = write_known(&self.table, headers, out)?;
+        if known == headers.len() {
+            return Ok(());
+        }
+        self.changing_block(&headers[known..], out)
+    }
+
+    /// Adds a block by a table that may change, of which a copy is kept until the block is written.
+    fn changing_block(&mut self, headers: &[Header], out: &mut Octets) -> Result<(), NoMemory>
+        requires { list_size headers.now ≤ MAX_HEADER_LIST_SIZE }
+        ensures written { OnOk result (out.new ≡ out.old ++ encoded_block self.old headers.now) }
+        ensures after { OnOk result (self.new ≡ writing_after self.old headers.now) }
+        ensures unchanged { OnErr result ((out.new ≡ out.old) × (self.new ≡ self.old)) }
+    {
+        let end = out.len();
+        let saved = self.table.copied(self.alloc)?;
+        match write_block(
+            self.alloc,
+            self.least,
+            self.last,
+            &mut self.table,
+            headers,
+            out,
+        ) {
+            Ok(()) => {
+                self.least = self.table.limit();
+                self.last = self.table.limit();
+                Ok(())
+            }
+            Err(NoMemory) => {
+                out.truncate(end);
+                self.table = saved;
+                Err(NoMemory)
+            }
         }
     }
-    Ok(())
 }
 
-#[tactic(auto, unfolding(crate::specs::Encoding::plain_field))]
-fn write_field(header: &Header, out: &mut Octets) -> Result<(), NoMemory>
-    requires { size_of header.now ≤ MAX_HEADER_LIST_SIZE }
-    ensures written { OnOk result (out.new ≡ out.old ++ plain_field header.now) }
+/// Writes a block, by the table as it is before it, which becomes the one after it.
+fn write_block(
+    alloc: Global,
+    least: usize,
+    last: usize,
+    table: &mut DynamicTable,
+    headers: &[Header],
+    out: &mut Octets,
+) -> Result<(), NoMemory>
+    requires least_small { least ≤ MAX_TABLE_SIZE }
+    requires last_small { last ≤ MAX_TABLE_SIZE }
+    requires list_small { list_size headers.now ≤ MAX_HEADER_LIST_SIZE }
+    ensures written { OnOk result (out.new ≡ out.old
+        ++ encoded_block (record { table = table.old; least = least; last = last }) headers.now) }
+    ensures after { OnOk result (table.new
+        ≡ (writing_after (record { table = table.old; least = least; last = last }) headers.now).table) }
     ensures extends { OnErr result (Extends out.old out.new) }
 {
-    write_octet(LITERAL_OF_NEW_NAME, out)?;
-    write_string(header.name.as_slice(), out)?;
-    write_string(header.value.as_slice(), out)
-}
-
-/// A string as it is (RFC 7541, section 5.2).
-#[tactic(auto, unfolding(crate::specs::Encoding::string_of))]
-pub(crate) fn write_string(text: &[u8], out: &mut Octets) -> Result<(), NoMemory>
-    requires { length text.now < 2 ^ 32 }
-    ensures written { OnOk result (out.new ≡ out.old ++ string_of text.now) }
-    ensures extends { OnErr result (Extends out.old out.new) }
-{
-    write_integer(STRING_BITS, text.len() as u32, out)?;
-    out.push_all(text)?;
-    Ok(())
-}
-
-/// An integer in a prefix of so many bits, after bits that are 0 (RFC 7541, section 5.1).
-fn write_integer(bits: u32, n: u32, out: &mut Octets) -> Result<(), NoMemory>
-    requires { bits < 8 }
-    ensures written { OnOk result (out.new ≡ out.old ++ integer_of bits n) }
-    ensures extends { OnErr result (Extends out.old out.new) }
-{
-    let full = full_prefix(bits);
-    if n < u32::from(full) {
-        return write_octet(n as u8, out);
-    }
-    write_octet(full, out)?;
-    write_groups(n - u32::from(full), out)
-}
-
-/// Seven bits an octet, the least significant first.
-pub(crate) fn write_groups(n: u32, out: &mut Octets) -> Result<(), NoMemory>
-    ensures written { OnOk result (out.new ≡ out.old ++ groups_of 4 n) }
-    ensures extends { OnErr result (Extends out.old out.new) }
-{
-    let mut rest = n;
-    while rest >= 128 {
-        match write_octet(128 + (rest % 128) as u8, out) {
-            Ok(()) => rest /= 128,
-            Err(NoMemory) => return Err(NoMemory),
-        }
-    }
-    write_octet(rest as u8, out)
-}
-
-pub(crate) fn write_octet(octet: u8, out: &mut Octets) -> Result<(), NoMemory>
-    ensures written { OnOk result (out.new ≡ out.old ++ octet ∷ []) }
-    ensures extends { OnErr result (out.new ≡ out.old) }
-{
-    out.add(octet)
+    write_size(least, table, out)?;
+    write_size(last, table, out)?;
+    write_fields(alloc, table, headers, out)
 }

@@ -4,7 +4,7 @@ ghost use Rattle.hpack.specs.declared.header.Header.{Header};
 ghost use Rattle.hpack.specs.Tables.{Table, fitting, list_size};
 ghost use Rattle.hpack.specs.Blocks.{IsBlock, BreaksBlock};
 ghost use Rattle.hpack.specs.declared.limits.TheConstants.{MAX_HEADER_LIST_SIZE};
-ghost use Rattle.hpack.specs.Indexing.{Indexing, IsIndexing, AreTexts, new_indexing, with_allowed, indexed_block, indexing_after};
+ghost use Rattle.hpack.specs.Encoding.{Writing, IsWriting, AreTexts, new_writing, with_peer_limit, encoded_block, writing_after};
 ghost use Rattle.hpack.specs.Rules.{rule_number};
 ghost use Rattle.hpack.specs.Laws.{IsLongestFront, IsSmallBlock, HasReading, IsRefusal};
 
@@ -32,15 +32,15 @@ pub fn one_answer_law()
     ensures own_number { (rule other : BlockRule) → rule_number rule ≡ rule_number other → rule ≡ other }
 {}
 
-/// The encoder's block with indices and the Huffman code is read back as the same headers, and leaves
-/// the peer's table as the encoder's, whatever maximum sizes the peer has allowed.
-#[tactic(auto, using(crate::proofs::IndexedBack::indexed_back, crate::proofs::IndexedBack::new_kept, crate::proofs::IndexedBack::allowed_kept))]
-pub fn indexed_block_law()
-    ensures read_back { (old : Indexing) (headers : List Header) → IsIndexing old → AreTexts headers
+/// The encoder's block is read back as the same headers, and leaves the peer's table as the encoder's,
+/// whatever maximum sizes the peer has allowed.
+#[tactic(auto, using(crate::proofs::BlockBack::block_back, crate::proofs::BlockBack::new_kept, crate::proofs::BlockBack::allowed_kept))]
+pub fn encoded_block_law()
+    ensures read_back { (old : Writing) (headers : List Header) → IsWriting old → AreTexts headers
         → list_size headers ≤ MAX_HEADER_LIST_SIZE
-        → IsBlock old.table (indexed_block old headers) headers (indexing_after old headers).table }
-    ensures begins { IsIndexing new_indexing }
-    ensures allowed { (peer : ℕ) (old : Indexing) → IsIndexing old → IsIndexing (with_allowed peer old) }
-    ensures goes_on { (old : Indexing) (headers : List Header) → IsIndexing old
-        → IsIndexing (indexing_after old headers) }
+        → IsBlock old.table (encoded_block old headers) headers (writing_after old headers).table }
+    ensures begins { IsWriting new_writing }
+    ensures allowed { (peer : ℕ) (old : Writing) → IsWriting old → IsWriting (with_peer_limit peer old) }
+    ensures goes_on { (old : Writing) (headers : List Header) → IsWriting old
+        → IsWriting (writing_after old headers) }
 {}

@@ -4,10 +4,9 @@
 mod decoder;
 mod dynamic_table;
 mod encoder;
+mod fields;
 mod header;
 mod header_list;
-mod indexing;
-mod indexing_encoder;
 mod integer;
 mod laws;
 mod limits;
@@ -16,11 +15,11 @@ mod sought;
 mod static_table;
 mod stop;
 mod string;
+mod writing;
 
 pub use decoder::Decoder;
 pub use encoder::Encoder;
 pub use header::{Header, Headers};
-pub use indexing_encoder::IndexingEncoder;
-pub use laws::{eviction_law, indexed_block_law, one_answer_law};
+pub use laws::{encoded_block_law, eviction_law, one_answer_law};
 pub use limits::{MAX_HEADER_LIST_SIZE, MAX_TABLE_SIZE};
 pub use stop::{BlockRule, HpackStop};

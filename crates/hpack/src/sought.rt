@@ -1,7 +1,7 @@
 //! The entry of the two tables by which a field is written.
 ghost use Rattle.std.specs.Prelude.{◌≡◌, ◌<◌, ◌*◌, ◌+◌};
 ghost use Rattle.hpack.specs.StaticTable.{static_table, field};
-ghost use Rattle.hpack.specs.Indexing.{first_index, entries_of};
+ghost use Rattle.hpack.specs.Encoding.{first_index, entries_of};
 ghost use Rattle.hpack.specs.Sought.{passes};
 
 use crate::dynamic_table::DynamicTable;

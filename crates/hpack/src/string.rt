@@ -7,7 +7,7 @@ ghost use Rattle.hpack.specs.Rules.{text_in_block};
 ghost use Rattle.hpack_huffman.specs.Decoding.{decoded};
 
 use crate::integer::integer_at;
-use crate::limits::STRING_BITS;
+use crate::limits::{MAX_HEADER_LIST_SIZE, STRING_BITS};
 use crate::stop::{BlockRule, HpackStop};
 use esi_base::{List, Octets, Stop};
 use hpack_huffman::{HuffmanRule, huff_decode};
@@ -80,11 +80,12 @@ fn text_of(alloc: Global, coded: bool, octets: &[u8]) -> Result<Octets, HpackSto
     }
 }
 
-/// The text whose Huffman code octets are.
+/// The text whose Huffman code octets are. Memory for it is taken at once: a word has 5 bits at least.
 fn decoded(alloc: Global, octets: &[u8]) -> Result<Octets, HpackStop>
     ensures { Reads (text_in_block (decoded octets.now)) result }
 {
-    let mut text = List::new(alloc);
+    let most = octets.len().saturating_mul(2).min(MAX_HEADER_LIST_SIZE);
+    let mut text = List::from_vec(Vec::with_capacity(alloc, most)?);
     match huff_decode(octets, &mut text) {
         Ok(()) => Ok(text),
         Err(Stop::Refused(HuffmanRule::Padding)) => Err(Stop::Refused(BlockRule::Padding)),

@@ -10,22 +10,28 @@ use std::alloc::Global;
 /// What each header counts beside its name and value (RFC 9113, section 10.5.1).
 const ENTRY_OVERHEAD: usize = 32;
 
-/// The octets of blocks of names and values, with `|` between the blocks, that one encoder writes, and
-/// how one decoder reads a block that it reads as another list. None where the text is none.
+/// The octets of blocks of names and values that one encoder writes, with `|` between the blocks, and how
+/// one decoder reads a block that it reads as another list. `limit N` in place of a block is what the peer
+/// allows from there on. None where the text is none.
 pub fn written(alloc: Global, text: &str) -> Result<Option<String>, NoMemory> {
     let mut encoder = Encoder::new(alloc)?;
     let mut decoder = Decoder::new(alloc)?;
     let mut answer = String::new(alloc);
-    for (at, block) in text.split("|").enumerate() {
-        if at > 0 {
-            answer.push_str(" | ")?;
+    for part in text.split("|") {
+        if let Some(limit) = part.trim_ascii().strip_prefix("limit ") {
+            let Ok(limit) = limit.parse::<u32>() else {
+                return Ok(None);
+            };
+            encoder.limit(limit);
+        } else {
+            if !answer.is_empty() {
+                answer.push_str(" | ")?;
+            }
+            let Some(block) = block_text(alloc, &mut encoder, &mut decoder, part)? else {
+                return Ok(None);
+            };
+            answer.push_str(block.as_str())?;
         }
-        let Some(block) = block_text(alloc, &mut encoder, &mut decoder, block)? else {
-            return Ok(None);
-        };
-        answer.push_str(block.as_str())?;
-        encoder.limit(0);
-        encoder.limit(4_096);
     }
     Ok(Some(answer))
 }
@@ -95,7 +101,7 @@ pub fn write(encoder: &mut Encoder, headers: &Headers, out: &mut Octets) -> Resu
 }
 
 /// Whether the size of headers is small enough.
-pub fn is_small(headers: &[Header]) -> bool
+fn is_small(headers: &[Header]) -> bool
     ensures { IsTrue result → list_size headers.now ≤ MAX_HEADER_LIST_SIZE }
 {
     let mut room = MAX_HEADER_LIST_SIZE;

@@ -11,7 +11,6 @@ mod fields;
 mod header_blocks;
 mod header_lists;
 mod huffman;
-mod indexed_headers;
 mod message_texts;
 mod messages;
 mod octets;
@@ -65,7 +64,6 @@ fn answer_of(alloc: Global, line: &str) -> Result<Option<String>, NoMemory> {
         "huffman-words" => huffman::words(alloc),
         "header-block" => header_blocks::read(alloc, rest),
         "write-headers" => header_lists::written(alloc, rest),
-        "index-headers" => indexed_headers::written(alloc, rest),
         "random" => random::compared(alloc, rest),
         _ => Ok(None),
     }

@@ -1,7 +1,7 @@
 use Rattle.std.proofs.Common.{◌≡◌, ℕ, ◌+◌, ◌*◌, true, false, drop, ap, sym, ◌∙◌, arith}
 use Rattle.hpack.specs.StaticTable.{static_table}
 use Rattle.hpack.specs.StaticPieces.{piece}
-use Rattle.hpack.specs.Indexing.{first_index}
+use Rattle.hpack.specs.Encoding.{first_index}
 use Rattle.hpack.specs.Sought.{passes}
 use Rattle.hpack.proofs.IndexLaws.{told, static_found, static_missed, static_none}
 use Rattle.hpack.proofs.sought.static_index.Goals as goal

@@ -1,6 +1,6 @@
 use Rattle.std.proofs.Common.{◌≡◌, ◌+◌, drop}
 use Rattle.hpack.specs.StaticTable.{static_table}
-use Rattle.hpack.specs.Indexing.{first_index}
+use Rattle.hpack.specs.Encoding.{first_index}
 use Rattle.hpack.specs.Sought.{passes}
 use Rattle.hpack.proofs.sought.static_index.Given as goal
 

@@ -1,5 +1,5 @@
 use Rattle.std.proofs.Common.{◌≡◌, ℕ, ◌+◌, true, false, drop, ap, sym, ◌∙◌, arith}
-use Rattle.hpack.specs.Indexing.{first_index}
+use Rattle.hpack.specs.Encoding.{first_index}
 use Rattle.hpack.specs.Sought.{passes}
 use Rattle.hpack.proofs.IndexLaws.{told, index_found, index_missed}
 use Rattle.hpack.proofs.dynamic_table.DynamicTable.index_of.Goals as goal

@@ -1,6 +1,6 @@
 use Rattle.std.proofs.Common.{◌≡◌, ◌+◌, drop}
 use Rattle.hpack.specs.declared.limits.TheConstants.{STATIC_ENTRIES}
-use Rattle.hpack.specs.Indexing.{first_index}
+use Rattle.hpack.specs.Encoding.{first_index}
 use Rattle.hpack.specs.Sought.{passes}
 use Rattle.hpack.proofs.dynamic_table.DynamicTable.index_of.Given as goal
 

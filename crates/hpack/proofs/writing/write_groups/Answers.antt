@@ -1,7 +1,7 @@
 use Rattle.std.proofs.Common.{arith}
 use Rattle.std.proofs.lemmas.Result.{on_ok_weaker}
 use Rattle.hpack.proofs.EncodingLemmas.{none_written, one_written, all_written}
-use Rattle.hpack.proofs.encoder.write_groups.Goals as goal
+use Rattle.hpack.proofs.writing.write_groups.Goals as goal
 
 pub loop-rest-init : goal.loop-rest-init
 loop-rest-init c = none_written c.args.out.now c.args.n (omega arith)

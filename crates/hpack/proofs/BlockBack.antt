@@ -18,10 +18,9 @@ use Rattle.hpack.specs.StaticTable.{static_table, length_static_table}
 use Rattle.hpack.specs.Tables.{Table, size_of, list_size, table_with, table_limited, fitting}
 use Rattle.hpack.specs.Representations.{Listing, IsEntry, IsLiteral, IsOf, representation_of, IsRepresentation}
 use Rattle.hpack.specs.Blocks.{AreRepresentations, IsBlock}
-use Rattle.hpack.specs.Encoding.{groups_of, string_of}
-use Rattle.hpack.specs.Indexing.{Indexing, marked, integer_with, text_of, AreTexts, IsKept, IsIndexing, new_indexing, with_allowed, first_index, entries_of, has_name, is_field, field_index, name_index, literal, joins, field_by, table_by, indexed_field, table_with_field, indexed_fields, table_with_fields, size_update, table_sized, table_before, indexed_block, indexing_after}
+use Rattle.hpack.specs.Encoding.{groups_of, string_of, Writing, marked, integer_with, text_of, AreTexts, IsKept, IsWriting, new_writing, with_peer_limit, first_index, entries_of, has_name, is_field, field_index, name_index, literal, joins, field_by, table_by, encoded_field, table_with_field, encoded_fields, table_with_fields, size_update, table_sized, table_before, encoded_block, writing_after}
 use Rattle.hpack.proofs.EncodingLemmas.{integer_short, integer_long}
-use Rattle.hpack.proofs.ReadBackLaw.{groups_are, string_back}
+use Rattle.hpack.proofs.StringBack.{groups_are, string_back}
 use Rattle.hpack.proofs.TableLemmas.{list_size-cons}
 use Rattle.hpack.proofs.IndexLaws.{few_entries}
 use Rattle.hpack.proofs.LawProofs.{fitting_longest}
@@ -291,18 +290,18 @@ kept_sized limit table small kept = of (limit == table.limit)
 
 -- ---- fields
 
-indexed_parts : Table → List Header → List (List ℕ)
-indexed_parts table [] = []
-indexed_parts table (header ∷ headers) = indexed_field table header ∷ indexed_parts (table_with_field table header) headers
+encoded_parts : Table → List Header → List (List ℕ)
+encoded_parts table [] = []
+encoded_parts table (header ∷ headers) = encoded_field table header ∷ encoded_parts (table_with_field table header) headers
 
 one_back : (listed : List Header) (table : Table) (header : Header) → length table.entries ≤ MAX_TABLE_SIZE → AreOctets header.name → AreOctets header.value → size_of header ≤ MAX_HEADER_LIST_SIZE
-    → IsRepresentation (listing listed table) (indexed_field table header) (listing (listed ++ header ∷ []) (table_with_field table header))
-unfolding indexed_field table_with_field
+    → IsRepresentation (listing listed table) (encoded_field table header) (listing (listed ++ header ∷ []) (table_with_field table header))
+unfolding encoded_field table_with_field
 one_back listed table header few name value small = field_back listed table header few name value small (field_index table header) refl
 
 fields_back : (headers listed : List Header) (table : Table) → IsKept table → AreTexts headers → list_size headers ≤ MAX_HEADER_LIST_SIZE
-    → AreRepresentations (indexed_parts table headers) (listing listed table) (indexed_fields table headers) (listing (listed ++ headers) (table_with_fields table headers))
-unfolding indexed_parts
+    → AreRepresentations (encoded_parts table headers) (listing listed table) (encoded_fields table headers) (listing (listed ++ headers) (table_with_fields table headers))
+unfolding encoded_parts
 fields_back [] listed table kept texts small = (refl, ap (λ (hs : List Header). listing hs table) (sym (append-nil listed)))
 fields_back (header ∷ headers) listed table kept texts small =
     let size = list_size-cons header headers in
@@ -312,11 +311,11 @@ fields_back (header ∷ headers) listed table kept texts small =
     let next = table_with_field table header in
     let more = fields_back headers (listed ++ header ∷ []) next (kept_field table header kept) texts.2 (omega arith) in
     let end : (listed ++ header ∷ []) ++ headers ≡ listed ++ (header ∷ headers) = append_assoc listed (header ∷ []) headers in (
-      indexed_fields next headers,
+      encoded_fields next headers,
       listing (listed ++ header ∷ []) next,
       refl,
       one_back listed table header (omega arith) texts.0 texts.1 (omega arith),
-      subst (λ (hs : List Header). AreRepresentations (indexed_parts next headers) (listing (listed ++ header ∷ []) next) (indexed_fields next headers) (listing hs (table_with_fields next headers))) end more,
+      subst (λ (hs : List Header). AreRepresentations (encoded_parts next headers) (listing (listed ++ header ∷ []) next) (encoded_fields next headers) (listing hs (table_with_fields next headers))) end more,
     )
 
 -- ---- size updates
@@ -345,25 +344,25 @@ sized_back limit table parts octets new small are = of (limit == table.limit) re
 
 -- ---- blocks
 
-pub indexed_back : (old : Indexing) (headers : List Header) → IsIndexing old → AreTexts headers → list_size headers ≤ MAX_HEADER_LIST_SIZE → IsBlock old.table (indexed_block old headers) headers (indexing_after old headers).table
-indexed_back old headers is texts small =
+pub block_back : (old : Writing) (headers : List Header) → IsWriting old → AreTexts headers → list_size headers ≤ MAX_HEADER_LIST_SIZE → IsBlock old.table (encoded_block old headers) headers (writing_after old headers).table
+block_back old headers is texts small =
     let first = table_sized old.least old.table in
     let kept = kept_sized old.last first is.last (kept_sized old.least old.table is.least is.table) in
     let fields = fields_back headers [] (table_before old) kept texts small in
     let new = listing headers (table_with_fields (table_before old) headers) in
-    let second = sized_back old.last first (indexed_parts (table_before old) headers) (indexed_fields (table_before old) headers) new is.last fields in
-    let all = sized_back old.least old.table second.parts (size_update old.last first ++ indexed_fields (table_before old) headers) new is.least second.are in
-    let joined = append_assoc (size_update old.least old.table) (size_update old.last first) (indexed_fields (table_before old) headers) in
+    let second = sized_back old.last first (encoded_parts (table_before old) headers) (encoded_fields (table_before old) headers) new is.last fields in
+    let all = sized_back old.least old.table second.parts (size_update old.last first ++ encoded_fields (table_before old) headers) new is.least second.are in
+    let joined = append_assoc (size_update old.least old.table) (size_update old.last first) (encoded_fields (table_before old) headers) in
     record { parts = all.parts; are_representations = subst (λ (o : List ℕ). AreRepresentations all.parts (listing [] old.table) o new) (sym joined) all.are }
 
-pub indexed_kept : (old : Indexing) (headers : List Header) → IsIndexing old → IsIndexing (indexing_after old headers)
-indexed_kept old headers is =
+pub block_kept : (old : Writing) (headers : List Header) → IsWriting old → IsWriting (writing_after old headers)
+block_kept old headers is =
     let first = kept_sized old.least old.table is.least is.table in
     let kept = kept_fields headers (table_before old) (kept_sized old.last (table_sized old.least old.table) is.last first) in
     record { table = kept; least = kept.small; last = kept.small }
 
-pub new_kept : IsIndexing new_indexing
+pub new_kept : IsWriting new_writing
 new_kept = record { table = record { within = omega arith; small = omega arith }; least = omega arith; last = omega arith }
 
-pub allowed_kept : (peer : ℕ) (old : Indexing) → IsIndexing old → IsIndexing (with_allowed peer old)
+pub allowed_kept : (peer : ℕ) (old : Writing) → IsWriting old → IsWriting (with_peer_limit peer old)
 allowed_kept peer old is = let least = is.least in record { table = is.table; least = omega arith; last = omega arith }

@@ -1,5 +1,5 @@
 use Rattle.hpack.proofs.EncodingLemmas.{AreWritten}
-use Rattle.hpack.proofs.encoder.write_groups.Given as goal
+use Rattle.hpack.proofs.writing.write_groups.Given as goal
 
 -- what was written, with the groups of the rest after it, is all
 abbrev pub invariant-loop-rest : goal.invariant-loop-rest

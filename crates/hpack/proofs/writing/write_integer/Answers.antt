@@ -2,7 +2,7 @@ use Rattle.std.proofs.Common.{◌++◌, ◌-◌, ◌∙◌, ◌∷◌, [], ap, s
 use Rattle.std.proofs.lemmas.Result.{on_ok_weaker}
 use Rattle.hpack.specs.Encoding.{groups_of}
 use Rattle.hpack.proofs.EncodingLemmas.{integer_short, long_written}
-use Rattle.hpack.proofs.encoder.write_integer.Goals as goal
+use Rattle.hpack.proofs.writing.write_integer.Goals as goal
 
 pub returns-then-n-from-clause-written : goal.returns-then-n-from-clause-written
 returns-then-n-from-clause-written c =

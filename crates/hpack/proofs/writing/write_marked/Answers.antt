@@ -1,9 +1,8 @@
 use Rattle.std.proofs.Common.{◌++◌, ◌-◌, ◌+◌, ◌∙◌, ◌∷◌, [], ap, sym, arith}
 use Rattle.std.proofs.lemmas.Result.{on_ok_weaker}
-use Rattle.hpack.specs.Encoding.{groups_of}
-use Rattle.hpack.specs.Indexing.{marked}
+use Rattle.hpack.specs.Encoding.{groups_of, marked}
 use Rattle.hpack.proofs.EncodingLemmas.{integer_short, long_marked}
-use Rattle.hpack.proofs.indexing.write_marked.Goals as goal
+use Rattle.hpack.proofs.writing.write_marked.Goals as goal
 
 pub returns-then-n-from-clause-written : goal.returns-then-n-from-clause-written
 returns-then-n-from-clause-written c =

@@ -1,65 +1,22 @@
-//! Fields with indices and the Huffman code, as an encoder writes them.
-ghost use Rattle.std.specs.Prelude.{◌≡◌, ◌<◌, ◌≤◌, ◌^◌, ◌+◌, ◌++◌, None, Option, length, OnOk, OnErr};
-ghost use Rattle.hpack_huffman.specs.Encoding.{encoded};
+//! Fields and size updates, as an encoder writes them.
+ghost use Rattle.std.specs.Prelude.{◌≡◌, ◌<◌, ◌≤◌, ◌^◌, ◌+◌, ◌++◌, Option, IfOk, OnOk, OnErr};
 ghost use Rattle.hpack.specs.Tables.{size_of, list_size};
 ghost use Rattle.hpack.specs.Extends.{Extends};
+ghost use Rattle.hpack.specs.Known.{AreKnown};
 ghost use Rattle.hpack.specs.declared.limits.TheConstants.{MAX_TABLE_SIZE};
 ghost use Rattle.hpack.specs.Integers.{full_prefix};
-ghost use Rattle.hpack.specs.Indexing.{integer_with, text_of, literal, new_field, indexed_field, table_with_field, table_joined, indexed_fields, table_with_fields, size_update, table_sized};
+ghost use Rattle.hpack.specs.Encoding.{literal, new_field, encoded_field, table_with_field, table_joined, encoded_fields, table_with_fields, size_update, table_sized};
 
 use crate::dynamic_table::DynamicTable;
-use crate::encoder::{write_groups, write_octet, write_string};
 use crate::header::Header;
-use crate::integer::full_prefix;
 use crate::limits::{
-    CODED_MARK, INDEXED_BITS, INDEXED_MARK, MAX_HEADER_LIST_SIZE, SIZE_UPDATE_BITS,
-    SIZE_UPDATE_MARK, STRING_BITS, WITH_INDEXING_BITS, WITH_INDEXING_MARK, WITHOUT_INDEXING_BITS,
-    WITHOUT_INDEXING_MARK,
+    INDEXED_BITS, INDEXED_MARK, MAX_HEADER_LIST_SIZE, SIZE_UPDATE_BITS, SIZE_UPDATE_MARK,
+    WITH_INDEXING_BITS, WITH_INDEXING_MARK, WITHOUT_INDEXING_BITS, WITHOUT_INDEXING_MARK,
 };
 use crate::sought::{Sought, index_of};
+use crate::writing::{write_marked, write_text};
 use esi_base::{NoMemory, Octets};
-use hpack_huffman::{huff_encode, huff_len};
 use std::alloc::Global;
-
-/// An integer in a prefix of so many bits, below a mark (RFC 7541, section 5.1).
-pub(crate) fn write_marked(mark: u8, bits: u32, n: u32, out: &mut Octets) -> Result<(), NoMemory>
-    requires narrow { bits < 8 }
-    requires room { mark + full_prefix bits < 2 ^ 8 }
-    ensures written { OnOk result (out.new ≡ out.old ++ integer_with mark bits n) }
-    ensures extends { OnErr result (Extends out.old out.new) }
-{
-    let full = full_prefix(bits);
-    if n < u32::from(full) {
-        return write_octet(mark + n as u8, out);
-    }
-    write_octet(mark + full, out)?;
-    write_groups(n - u32::from(full), out)
-}
-
-/// A string, Huffman coded where that takes fewer octets (section 5.2).
-pub(crate) fn write_text(text: &[u8], out: &mut Octets) -> Result<(), NoMemory>
-    requires { length text.now < 2 ^ 32 }
-    ensures written { OnOk result (out.new ≡ out.old ++ text_of text.now) }
-    ensures extends { OnErr result (Extends out.old out.new) }
-{
-    let count = huff_len(text);
-    if count < text.len() {
-        write_coded(count as u32, text, out)
-    } else {
-        write_string(text, out)
-    }
-}
-
-/// The code of a text, after its length.
-fn write_coded(count: u32, text: &[u8], out: &mut Octets) -> Result<(), NoMemory>
-    requires { count ≡ length (encoded text.now) }
-    ensures written { OnOk result (out.new
-        ≡ out.old ++ (integer_with CODED_MARK STRING_BITS (length (encoded text.now)) ++ encoded text.now)) }
-    ensures extends { OnErr result (Extends out.old out.new) }
-{
-    write_marked(CODED_MARK, STRING_BITS, count, out)?;
-    huff_encode(text, out)
-}
 
 /// A literal whose name has an index, or none (section 6.2).
 fn write_literal(
@@ -109,7 +66,7 @@ fn write_new(table: &DynamicTable, header: &Header, out: &mut Octets) -> Result<
 }
 
 /// A field, by the table as it is before it, which becomes the one after it.
-#[tactic(auto, unfolding(crate::specs::Indexing::indexed_field, crate::specs::Indexing::table_with_field))]
+#[tactic(auto, unfolding(crate::specs::Encoding::encoded_field, crate::specs::Encoding::table_with_field))]
 fn write_field(
     alloc: Global,
     table: &mut DynamicTable,
@@ -117,7 +74,7 @@ fn write_field(
     out: &mut Octets,
 ) -> Result<(), NoMemory>
     requires { size_of header.now ≤ MAX_HEADER_LIST_SIZE }
-    ensures written { OnOk result (out.new ≡ out.old ++ indexed_field table.old header.now) }
+    ensures written { OnOk result (out.new ≡ out.old ++ encoded_field table.old header.now) }
     ensures after { OnOk result (table.new ≡ table_with_field table.old header.now) }
     ensures extends { OnErr result (Extends out.old out.new) }
 {
@@ -150,7 +107,7 @@ pub(crate) fn write_fields(
     out: &mut Octets,
 ) -> Result<(), NoMemory>
     requires { list_size headers.now ≤ MAX_HEADER_LIST_SIZE }
-    ensures written { OnOk result (out.new ≡ out.old ++ indexed_fields table.old headers.now) }
+    ensures written { OnOk result (out.new ≡ out.old ++ encoded_fields table.old headers.now) }
     ensures after { OnOk result (table.new ≡ table_with_fields table.old headers.now) }
     ensures extends { OnErr result (Extends out.old out.new) }
 {
@@ -162,6 +119,28 @@ pub(crate) fn write_fields(
         }
     }
     Ok(())
+}
+
+/// Writes fields from the front on as long as they are entries, and tells how many.
+#[tactic(auto, using(crate::proofs::IndexLaws::known_none))]
+pub(crate) fn write_known(
+    table: &DynamicTable,
+    headers: &[Header],
+    out: &mut Octets,
+) -> Result<usize, NoMemory>
+    ensures known { IfOk result (λ known. AreKnown table.now headers.now known out.old out.new) }
+    ensures extends { OnErr result (Extends out.old out.new) }
+{
+    for (known, header) in headers.iter().enumerate() {
+        let Some(index) = index_of(table, Sought::Field, header) else {
+            return Ok(known);
+        };
+        match write_marked(INDEXED_MARK, INDEXED_BITS, index, out) {
+            Ok(()) => {}
+            Err(NoMemory) => return Err(NoMemory),
+        }
+    }
+    Ok(headers.len())
 }
 
 /// A size update where the maximum size differs, and the table after it (sections 4.2 and 6.3).
