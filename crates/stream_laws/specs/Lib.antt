@@ -1,3 +1,4 @@
 pub mod NoData
 pub mod Windows
 pub mod Marks
+pub mod Ended
