@@ -2,10 +2,9 @@
 ghost use Rattle.std.specs.Prelude.{◌≡◌, ◌++◌, ◌∷◌, [], map, flat_map, filter, IfOk, OnOk, option_copied};
 ghost use Rattle.name_tables.specs.Keys.{label_of};
 ghost use Rattle.check_rules.specs.References.{part_label};
-ghost use Rattle.check_rules.specs.Uses.{is_out};
 ghost use Rattle.design_scopes.specs.Bodies.{referred};
 ghost use Rattle.body_plans.specs.Channels.{is_to_client, client_members};
-ghost use Rattle.body_plans.specs.Plans.{sinks_of, drivers_of, drives_of, place_if, driver_place, client_places, client_endpoints, port_places};
+ghost use Rattle.body_plans.specs.Plans.{sinks_of, drivers_of, drives_of, driver_place, client_places, client_endpoints, port_places};
 
 use crate::before::ModulesBefore;
 use crate::channels::client_key;

@@ -1,10 +1,9 @@
 //! The steps of a plan.
-ghost use Rattle.std.specs.Prelude.{◌≡◌, ◌++◌, ◌∷◌, ◌-◌, [], map, filter, length, replicate, slice_get, unwrap_or, IfOk, OnOk, option_copied};
+ghost use Rattle.std.specs.Prelude.{◌≡◌, ◌++◌, ◌∷◌, ◌-◌, [], map, length, replicate, unwrap_or, IfOk, OnOk, option_copied};
 ghost use Rattle.name_tables.specs.Keys.{label_of};
 ghost use Rattle.check_rules.specs.Directions.{ports_of};
-ghost use Rattle.check_rules.specs.Uses.{is_in};
-ghost use Rattle.body_plans.specs.Channels.{inner, server_label, endpoints_of, made_by, made_if, made_at};
-ghost use Rattle.body_plans.specs.Plans.{binding_label, bound_to, binding_place, port_sources, endpoint_places, part_step, in_row, instance_step as instance_by, steps_by, steps_if, steps_at, steps_along};
+ghost use Rattle.body_plans.specs.Channels.{inner, made_by, made_if, made_at};
+ghost use Rattle.body_plans.specs.Plans.{binding_label, bound_to, binding_place, port_sources, part_step, in_row, instance_step as instance_by, steps_by, steps_if, steps_at, steps_along};
 ghost use Rattle.body_plans.specs.Views.{channel_of};
 
 use crate::before::ModulesBefore;
