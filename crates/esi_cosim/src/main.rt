@@ -5,9 +5,10 @@ use command_runs::{Ending, conclude};
 use esi_base::List;
 use esi_commands::program::{command_words, exit_code};
 use esi_commands::run;
-use esi_links::{DiskFiles, StdSink, SureLinks};
+use esi_links::SureLinks;
 use std::process::ExitCode;
 use std::{env, io};
+use system_adapters::{DiskFiles, StdSink};
 
 /// Makes the real objects, runs the command that the arguments ask for, and ends with its status.
 fn main(rt: HostRuntime) -> io::Result<ExitCode> {

@@ -37,6 +37,15 @@ memory_octets sink = sink.octets
 abbrev pub memory_calls : MemorySink → Calls
 memory_calls sink = sink.calls
 
+-- how many octets one write takes at most, None: any number
+abbrev pub memory_most : MemorySink → Option ℕ
+memory_most sink = sink.most
+
+-- at most a limit, where there is one
+abbrev pub at_most : Option ℕ → ℕ → ℕ
+at_most None count = count
+at_most (Some limit) count = min limit count
+
 -- they are told
 abbrev pub memory_told : MemorySink → Option (List ℕ)
 memory_told sink = Some (memory_octets sink)

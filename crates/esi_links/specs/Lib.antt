@@ -1,4 +1,3 @@
-pub mod Adapters
 pub mod Counts
 pub mod FailingCalls
 pub mod Fresh

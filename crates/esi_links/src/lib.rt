@@ -1,10 +1,8 @@
 //! The outside: files, sinks of octets and links, which a program reaches only through the traits
-//! of this crate, with forms of them in memory and over the system, and the two calls that read and
-//! write whole texts.
+//! of this crate, with forms of them in memory, and the two calls that read and write whole texts.
 #![tactic(auto)]
 
 pub mod calls;
-pub mod disk_files;
 pub mod files;
 mod holding;
 pub mod limits;
@@ -14,16 +12,13 @@ pub mod memory_sink;
 pub mod note;
 pub mod noting_files;
 pub mod sink;
-pub mod std_sink;
 pub mod stop;
 pub mod sure_files;
 pub mod sure_links;
 pub mod sure_sink;
-mod system;
 pub mod whole;
 
 pub use calls::Calls;
-pub use disk_files::DiskFiles;
 pub use files::Files;
 pub use links::{Entry, Event, Links};
 pub use memory_files::MemoryFiles;
@@ -31,7 +26,6 @@ pub use memory_sink::MemorySink;
 pub use note::Note;
 pub use noting_files::NotingFiles;
 pub use sink::Sink;
-pub use std_sink::StdSink;
 pub use stop::{LinkStop, OutStop};
 pub use sure_files::{SureFiles, sure_files_law};
 pub use sure_links::{SureLinks, sure_links_law};

@@ -5,7 +5,7 @@
 pub const LONGEST_BYTES: usize = 16_384;
 
 /// How many octets one call reads at most: they stand on the stack until they are copied.
-pub(crate) const LONGEST_PIECE: usize = 4_096;
+pub const LONGEST_PIECE: usize = 4_096;
 
 const _: () = prove!(LONGEST_BYTES == 16384);
 

@@ -12,9 +12,10 @@ mod work;
 
 use crate::work::Work;
 use esi_base::LONGEST_TEXT;
-use esi_links::{DiskFiles, read_whole};
+use esi_links::read_whole;
 use std::process::ExitCode;
 use std::{env, io};
+use system_adapters::DiskFiles;
 
 /// `measurements WORK ROUNDS FILE` does the work so often on the octets that the file holds, and prints
 /// what a round made: octets, or what the work counts. Other words, a file that cannot be read, octets

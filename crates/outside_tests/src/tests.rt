@@ -1,12 +1,15 @@
 //! What no clause and no program of the repository shows, with ample memory.
 use esi_base::{List, Octets};
 use esi_links::{
-    DiskFiles, Event, Files, Links, OutStop, Sink, StdSink, SureLinks, read_whole, sure_links_law,
-    write_whole,
+    Event, Files, LinkStop, Links, MemorySink, OutStop, Sink, SureLinks, read_whole,
+    sure_links_law, write_whole,
 };
+use link_log::{Log, LogStep};
+use memory_links::{MemoryLinks, memory_links_law};
 use std::alloc::{AllocError, Global};
 use std::test::Fail;
 use std::{env, fs, io};
+use system_adapters::{DiskFiles, StdSink};
 
 /// A device that takes no octets.
 const FULL_DEVICE: &str = "/dev/full";
@@ -47,6 +50,67 @@ fn sure_links_tell_their_events_and_then_idle(rt: HostRuntime) -> Result<(), Fai
     let mut links = SureLinks::new(rt.alloc(), List::new(rt.alloc()));
     assert_eq!(rt; links.connect("127.0.0.1:0"), Ok(0));
     sure_links_law(&links);
+    Ok(())
+}
+
+#[test]
+fn memory_links_play_a_log(rt: HostRuntime) -> Result<(), Fail> {
+    let mut steps = List::new(rt.alloc());
+    assert!(rt; steps.push(LogStep::Opened).is_ok());
+    assert!(rt; steps.push(LogStep::Room { conn: 0, octets: 4 }).is_ok());
+    let octets = Octets::from_slice(rt.alloc(), b"PRI")?;
+    assert!(rt; steps.push(LogStep::Bytes { conn: 0, octets }).is_ok());
+    assert!(rt; steps.push(LogStep::Fail).is_ok());
+    let Ok(mut links) = MemoryLinks::from_log(rt.alloc(), Log { steps }) else {
+        return Err(Fail::from("out of memory"));
+    };
+    assert_eq!(rt; links.add(LogStep::Closed { conn: 0 }), Ok(()));
+    assert_eq!(rt; links.unread(), 4);
+    assert_eq!(rt; links.listen("127.0.0.1:0"), Ok(()));
+    assert!(rt; matches!(&links.next(), Ok(Event::Opened { conn: 0 })));
+    assert_eq!(rt; links.send(0, b"SETTINGS"), Ok(8));
+    let three = match links.next() {
+        Ok(Event::Bytes { conn: 0, octets }) => octets.len() == 3,
+        _ => false,
+    };
+    assert!(rt; three);
+    assert_eq!(rt; links.send(0, b"SETTINGS"), Ok(4));
+    assert_eq!(rt; links.send(0, b"SETTINGS"), Ok(0));
+    assert!(rt; matches!(&links.next(), Err(LinkStop::Fault)));
+    assert!(rt; matches!(&links.next(), Ok(Event::Closed { conn: 0 })));
+    assert!(rt; matches!(&links.next(), Ok(Event::Idle)));
+    assert!(rt; links.sent_to(0) == b"SETTINGSSETT".as_slice());
+    assert!(rt; links.sent_to(1).is_empty());
+    assert_eq!(rt; links.unread(), 0);
+    memory_links_law(&links);
+    Ok(())
+}
+
+#[test]
+fn memory_links_fail_where_they_were_told_to(rt: HostRuntime) -> Result<(), Fail> {
+    let steps = List::new(rt.alloc());
+    let Ok(mut links) = MemoryLinks::from_log(rt.alloc(), Log { steps }) else {
+        return Err(Fail::from("out of memory"));
+    };
+    let mut failing = List::new(rt.alloc());
+    assert!(rt; failing.push(0).is_ok());
+    links.set_failing(failing);
+    links.set_piece(2);
+    assert_eq!(rt; links.connect("127.0.0.1:0"), Err(LinkStop::Fault));
+    assert_eq!(rt; links.connect("127.0.0.1:0"), Ok(0));
+    assert_eq!(rt; links.send(0, b"octets"), Ok(2));
+    assert_eq!(rt; links.drop_conn(0), Ok(()));
+    assert_eq!(rt; links.send(0, b"octets"), Ok(0));
+    assert!(rt; links.sent_to(0) == b"oc".as_slice());
+    Ok(())
+}
+
+#[test]
+fn a_sink_takes_at_most_a_piece(rt: HostRuntime) -> Result<(), Fail> {
+    let mut sink = MemorySink::with_piece(rt.alloc(), 5, List::new(rt.alloc()));
+    assert_eq!(rt; sink.write(b"got 2a out"), Ok(5));
+    assert_eq!(rt; write_whole(&mut sink, b"a out"), Ok(()));
+    assert!(rt; sink.written() == b"got 2a out".as_slice());
     Ok(())
 }
 

@@ -2,11 +2,11 @@
 //! the system is, so each adapter is a line.
 ghost use Rattle.std.specs.Prelude.{◌≡◌, ◌<◌, ◌≤◌, length, IfOk, OnOk, OnErr};
 ghost use Rattle.std.specs.Io.KnownBytes.{Appends, ReadConsumes, WriteAppends};
-ghost use Rattle.esi_links.specs.Adapters.{Translates, after_answer};
+ghost use Rattle.system_adapters.specs.Adapters.{Translates, after_answer};
 ghost use Rattle.esi_links.specs.Counts.{HasCause};
 
-use crate::OutStop;
-use crate::limits::LONGEST_PIECE;
+use esi_links::OutStop;
+use esi_links::limits::LONGEST_PIECE;
 use std::io;
 
 /// What the system gave is handed on. An error of the kind `OutOfMemory` is out of memory; every

@@ -2,7 +2,7 @@
 ghost use Rattle.std.specs.Prelude.{◌≡◌, ◌<◌, ◌≤◌, None, false, length, IfOk, OnErr};
 
 use crate::system::{read_from, translate, write_to};
-use crate::{Files, OutStop};
+use esi_links::{Files, OutStop};
 use std::io::{Seek, SeekFrom};
 use std::{fs, io, rt};
 
@@ -14,7 +14,7 @@ pub struct DiskFiles<R> {
 }
 
 impl<R: rt::Files> DiskFiles<R> {
-    ghost use Rattle.esi_links.specs.Adapters.{disk_faults};
+    ghost use Rattle.system_adapters.specs.Adapters.{disk_faults};
 
     /// The files that a runtime reaches. No call failed yet.
     pub fn new(runtime: R) -> DiskFiles<R>
@@ -25,7 +25,7 @@ impl<R: rt::Files> DiskFiles<R> {
 }
 
 impl<R: rt::Files> Files for DiskFiles<R> {
-    ghost use Rattle.esi_links.specs.Adapters.{disk_faults};
+    ghost use Rattle.system_adapters.specs.Adapters.{disk_faults};
 
     ghost text = { λ _ _. None };
 

@@ -4,8 +4,8 @@ use Rattle.std.specs.declared.io.Error.{Error}
 use Rattle.std.specs.declared.io.ErrorKind.TheVariants.{OutOfMemory}
 use Rattle.std.specs.IoError.{error_kind}
 use Rattle.esi_links.specs.Counts.{one_more}
-use Rattle.esi_links.specs.declared.disk_files.DiskFiles.{DiskFiles}
-use Rattle.esi_links.specs.declared.std_sink.StdSink.{StdSink}
+use Rattle.system_adapters.specs.declared.disk_files.DiskFiles.{DiskFiles}
+use Rattle.system_adapters.specs.declared.std_sink.StdSink.{StdSink}
 use Rattle.esi_links.specs.declared.stop.OutStop.{OutStop}
 use Rattle.esi_links.specs.declared.stop.OutStop.TheVariants.{Fault, NoMemory}
 

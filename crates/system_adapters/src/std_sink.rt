@@ -3,7 +3,7 @@ ghost use Rattle.std.specs.Prelude.{◌≡◌, ◌<◌, ◌≤◌, None, length,
 ghost use Rattle.esi_links.specs.Counts.{HasCause};
 
 use crate::system::offer_to;
-use crate::{OutStop, Sink};
+use esi_links::{OutStop, Sink};
 use std::io;
 
 /// A sink over a writer, as the standard output. It tells nothing of what was written, and raises
@@ -15,7 +15,7 @@ pub struct StdSink<W> {
 }
 
 impl<W: io::Write> StdSink<W> {
-    ghost use Rattle.esi_links.specs.Adapters.{std_faults};
+    ghost use Rattle.system_adapters.specs.Adapters.{std_faults};
 
     /// The sink over a writer. No write failed yet.
     pub fn new(writer: W) -> StdSink<W>
@@ -27,7 +27,7 @@ impl<W: io::Write> StdSink<W> {
 
 impl<W: io::Write> Sink for StdSink<W> {
     ghost use Rattle.std.specs.Io.KnownBytes.{WriteAppends};
-    ghost use Rattle.esi_links.specs.Adapters.{std_faults, std_writer, after_answer};
+    ghost use Rattle.system_adapters.specs.Adapters.{std_faults, std_writer, after_answer};
 
     ghost octets = { λ _. None };
 
