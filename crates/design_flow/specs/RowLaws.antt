@@ -1,11 +1,11 @@
 -- A good flat list is a row of elements.
-use Rattle.std.specs.Prelude.{◌≡◌, ℕ, zero, suc, ◌+◌, ◌<◌, List, [], ◌∷◌, ◌++◌, Option, All, length, map, flat_map, get_or, slice_get, refl}
-use Rattle.std.proofs.Common.{sym, ◌∙◌, ap, subst, arith, add_assoc}
+use Rattle.std.specs.Prelude.{◌≡◌, ℕ, zero, suc, ◌+◌, ◌<◌, List, [], ◌∷◌, ◌++◌, All, length, map, flat_map, get_or, slice_get, refl}
+use Rattle.std.proofs.Common.{sym, ◌∙◌, ap, subst, arith}
 use Rattle.std.proofs.lemmas.List.Elements.{All-get_or}
 use Rattle.netlist.specs.declared.part.Part.{Part}
 use Rattle.element_laws.specs.Elements.{input_count, output_count}
 use Rattle.element_rows.specs.Flat as R
-use Rattle.element_rows.specs.Flat.{Placed, source, channel_count, uses, TakesEarlier, sum_below, IsFlatList}
+use Rattle.element_rows.specs.Flat.{channel_count, uses, TakesEarlier, sum_below, IsFlatList}
 use Rattle.flat_design.specs.declared.element.Element as F
 use Rattle.flat_design.specs.declared.element.Flat.{Flat}
 use Rattle.flat_design.specs.Laying.{count_up}

@@ -1,5 +1,5 @@
 //! The connections of links that play a log.
-ghost use Rattle.std.specs.Prelude.{◌≡◌, ◌≤◌, length, OnOk, OnErr, IfOk, replicate, ◌++◌, ◌∷◌, []};
+ghost use Rattle.std.specs.Prelude.{◌≡◌, ◌≤◌, OnOk, OnErr};
 ghost use Rattle.memory_links.specs.Conns.{unopened, opened, shut, with_room, after_send, changed, send_count, count_at};
 
 use esi_base::{NoMemory, Octets};

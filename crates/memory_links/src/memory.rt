@@ -1,5 +1,5 @@
 //! Links in memory that play a log.
-ghost use Rattle.std.specs.Prelude.{◌≡◌, ℕ, ◌+◌, ◌^◌, ◌<◌, ◌≤◌, ◌++◌, ◌∷◌, List as Listed, [], length, take, Some, None, true, false, IsTrue, if◌then◌else◌, Ok, Err, IfOk, OnOk, OnErr, IfSome, IsErrOf};
+ghost use Rattle.std.specs.Prelude.{◌≡◌, ℕ, ◌+◌, ◌^◌, ◌<◌, ◌≤◌, ◌++◌, ◌∷◌, [], length, take, Some, None, true, false, IsTrue, if◌then◌else◌, Ok, Err, IfOk, OnOk, OnErr, IfSome, IsErrOf};
 ghost use Rattle.std.specs.List.{list_all};
 ghost use Rattle.esi_links.specs.LinkLog.{LogGrows, IsNext, is_sized, is_fresh, opened_count};
 ghost use Rattle.esi_links.specs.Counts.{NoneFell, HasLinkCause, HasLinkCauseAt, SameCounts};

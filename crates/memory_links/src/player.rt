@@ -4,7 +4,7 @@ ghost use Rattle.esi_links.specs.FailingCalls.{is_due, after_fault};
 ghost use Rattle.esi_links.specs.Counts.{CountRose};
 ghost use Rattle.esi_links.specs.declared.stop.LinkStop.TheVariants.{Fault as fault};
 ghost use Rattle.esi_links.specs.LinkLog.{opening};
-ghost use Rattle.memory_links.specs.Plays.{new_play, new_conns, places, from_event, after_rooms, after_event, step_event, event_next, after_told, after_failed, after_listen, after_connect, send_takes, after_sent, after_drop, after_add, event_count, with_failing, with_piece, openings};
+ghost use Rattle.memory_links.specs.Plays.{new_play, new_conns, places, from_event, after_rooms, after_event, event_next, after_told, after_failed, after_listen, after_connect, send_takes, after_sent, after_drop, after_add, event_count, with_failing, with_piece, openings};
 ghost use Rattle.memory_links.specs.Conns.{sent_at};
 
 use crate::conn::{Conn, give, open_conn, set_room, shut_conn, taken_of};

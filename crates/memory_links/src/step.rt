@@ -1,5 +1,5 @@
 //! What a step of a log tells.
-ghost use Rattle.std.specs.Prelude.{◌≡◌, ◌++◌, [], Bool, slice_get, count_by, OnOk, OnErr, IfOk};
+ghost use Rattle.std.specs.Prelude.{◌≡◌, ◌++◌, slice_get, OnOk, OnErr, IfOk};
 ghost use Rattle.std.specs.Option.{option_copied};
 ghost use Rattle.memory_links.specs.Plays.{step_event, from_event, event_count, is_event as is_event_of, entries_of};
 

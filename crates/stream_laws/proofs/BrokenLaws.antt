@@ -8,14 +8,14 @@ use Rattle.h2_flow.specs.declared.limits.TheConstants.{OPEN_STREAMS}
 use Rattle.h2_flow.specs.Windows.{answer_at_setting, after_sending, after_resolving}
 use Rattle.h2_frames.specs.Reading.{Next, next_of}
 use Rattle.h2_frames.specs.Reading.Next.{NextUnfinished, NextFrame, NextFault}
-use Rattle.h2_history.specs.Blocks.{Completed, completed_by, completed, seen_by_list, begun_by_row, fragment_read, continuation_read, decoded_at, block_begun, block_grown, is_too_long, has_all_frames, too_much, list_verdict, row_wanted}
+use Rattle.h2_history.specs.Blocks.{Completed, completed_by, completed, seen_by_list, begun_by_row, fragment_read, decoded_at, block_begun, block_grown, is_too_long, has_all_frames, too_much, list_verdict, row_wanted}
 use Rattle.h2_history.specs.declared.event.CallEvent.{CallEvent}
 use Rattle.h2_history.specs.declared.event.CallEvent.TheVariants as events
 use Rattle.h2_history.specs.declared.header_block.HeaderBlock.{HeaderBlock}
 use Rattle.h2_history.specs.declared.verdict.Verdict.{Verdict}
 use Rattle.h2_history.specs.declared.verdict.Verdict.TheVariants.{ConnectionError, StreamError, Ignored, Accepted}
 use Rattle.h2_history.specs.Frames.{counted, data_seen, opened_if_room, headers_opens, headers_seen, headers_read, headers_reported, continued_read, continued_seen, continued_reported, reset_seen, update_seen, goaway_seen, frame_seen, frame_read, frame_reported}
-use Rattle.h2_history.specs.History.{Entry, passed_next, passed, after, after_all, new_standing, StandsFor, Turn, turn_reported, turn_next, turn_by, turn_of, IsReported}
+use Rattle.h2_history.specs.History.{Entry, passed_next, passed, after, after_all, new_standing, StandsFor, Turn, turn_reported, turn_next, turn_by, IsReported}
 use Rattle.h2_history.specs.History.Entry.{Fed, In, Out, Took}
 use Rattle.h2_history.specs.History.Turn.{Rests, Goes, Reports}
 use Rattle.h2_history.specs.Puts.{Put, octets_put, writing_behind, shut, opened, row_ended_here, ended_here, row_ended_by_peer, ended_by_peer, ended_here_if, effect_of_frame, effect, out}

@@ -1,12 +1,12 @@
 -- Nothing is read or put on a connection that has ended.
-use Rattle.std.proofs.Common.{◌≡◌, ℕ, Option, Some, None, List, [], ◌∷◌, ◌++◌, refl, ap, sym, ◌∙◌, subst}
+use Rattle.std.proofs.Common.{◌≡◌, ℕ, Option, Some, List, [], ◌∷◌, ◌++◌, refl, ap, sym, ◌∙◌, subst}
 use Rattle.h2_history.specs.declared.event.CallEvent.{CallEvent}
 use Rattle.h2_history.specs.declared.event.CallEvent.TheVariants.{Broken}
 use Rattle.h2_history.specs.History.{Entry, outs, Turn, turn_of, turn_by, turn_entries, entries_by, AreQuiet, IsReported, IsAtRest}
 use Rattle.h2_history.specs.History.Entry.{Fed, In, Out, Took}
 use Rattle.h2_history.specs.History.Turn.{Rests, Goes, Reports}
-use Rattle.h2_history.specs.Puts.{Put, offered, offered_by, offer_all, placed, placed_by, placed_all}
-use Rattle.h2_history.specs.Runs.{Call, Step, IsRun, Offered, puts_of, quiet_entries, rest_entries, reported_entries}
+use Rattle.h2_history.specs.Puts.{Put, offered, offered_by, offer_all, placed_by, placed_all}
+use Rattle.h2_history.specs.Runs.{Call, Step, IsRun, puts_of, quiet_entries, reported_entries}
 use Rattle.h2_history.specs.Runs.Call.{Feed, Report, Rest, Offer, Send, Take}
 use Rattle.h2_history.specs.Standing.{Standing}
 use Rattle.stream_laws.specs.Ended.{AreSilent, AreNoSends}

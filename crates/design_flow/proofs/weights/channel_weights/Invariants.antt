@@ -1,4 +1,3 @@
-use Rattle.std.proofs.Common.{◌≡◌, length}
 use Rattle.design_flow.specs.Elements.{row_of}
 use Rattle.design_flow.proofs.WeightSteps.{IsWeighing}
 use Rattle.design_flow.proofs.weights.channel_weights.Given as goal
