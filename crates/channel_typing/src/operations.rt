@@ -50,22 +50,12 @@ pub(crate) fn operation_made<'v, 'a>(
             origin_of(scope, elements, source),
             capped_count(depth.value),
         )),
-        Operation::AsFifo(source) => Ok(part_made(
+        Operation::AsFifo(source) => { Ok(as_fifo_made(known, origin_of(scope, elements, source))) }
+        Operation::AsVr(source) => Ok(as_vr_made(known, origin_of(scope, elements, source))),
+        Operation::Fork(source) => Ok(fork_made(
             known,
             origin_of(scope, elements, source),
-            Part::AsFifo,
-        )),
-        Operation::AsVr(source) => Ok(part_made(
-            known,
-            origin_of(scope, elements, source),
-            Part::AsVr,
-        )),
-        Operation::Fork(source) => Ok(part_made(
-            known,
-            origin_of(scope, elements, source),
-            Part::Fork {
-                branches: capped_count(channels as u128),
-            },
+            capped_count(channels as u128),
         )),
         Operation::Join { left, right } => join_of(alloc, scope, elements, known, left, right),
         Operation::Map {
@@ -151,16 +141,48 @@ fn fifo_made<'a>(known: &KnownTypes<'a>, origin: Origin<'a>, depth: u32) -> Made
     }
 }
 
-/// A part that hands on what it takes.
-fn part_made<'a>(known: &KnownTypes<'a>, origin: Origin<'a>, part: Part) -> MadeElement<'a>
-    ensures { Ok (made_in known.now result) ≡ over (origin_in known.now origin.entry) (λ a. Ok (as_part part a)) }
+/// FIFO signalling from valid and ready.
+fn as_fifo_made<'a>(known: &KnownTypes<'a>, origin: Origin<'a>) -> MadeElement<'a>
+    ensures { Ok (made_in known.now result) ≡ over (origin_in known.now origin.entry) (λ a. Ok (as_part P.AsFifo a)) }
 {
     match known.find(origin) {
         None => unknown_made(),
         Some(ty) => MadeElement {
             ty: NewType::Passed(origin),
             element: TypedElement::Part {
-                part,
+                part: Part::AsFifo,
+                width: ty.width(),
+            },
+        },
+    }
+}
+
+/// Valid and ready from FIFO signalling.
+fn as_vr_made<'a>(known: &KnownTypes<'a>, origin: Origin<'a>) -> MadeElement<'a>
+    ensures { Ok (made_in known.now result) ≡ over (origin_in known.now origin.entry) (λ a. Ok (as_part P.AsVr a)) }
+{
+    match known.find(origin) {
+        None => unknown_made(),
+        Some(ty) => MadeElement {
+            ty: NewType::Passed(origin),
+            element: TypedElement::Part {
+                part: Part::AsVr,
+                width: ty.width(),
+            },
+        },
+    }
+}
+
+/// Copies of a channel.
+fn fork_made<'a>(known: &KnownTypes<'a>, origin: Origin<'a>, branches: u32) -> MadeElement<'a>
+    ensures { Ok (made_in known.now result) ≡ over (origin_in known.now origin.entry) (λ a. Ok (as_part (P.Fork branches) a)) }
+{
+    match known.find(origin) {
+        None => unknown_made(),
+        Some(ty) => MadeElement {
+            ty: NewType::Passed(origin),
+            element: TypedElement::Part {
+                part: Part::Fork { branches },
                 width: ty.width(),
             },
         },

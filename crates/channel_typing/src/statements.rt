@@ -116,7 +116,10 @@ fn bound_misfit<'v, 'a>(
 fn given<'b, 'a>(ty: Option<&'a EsiType>) -> Option<SourceType<'b, 'a>>
     ensures { option_map source_in result ≡ option_copied ty.entry }
 {
-    ty.map(|found| SourceType::Value(ValueType::Given(found)))
+    match ty {
+        Some(found) => Some(SourceType::Value(ValueType::Given(found))),
+        None => None,
+    }
 }
 
 /// The place of a reference, where its type is not the one that is asked.
