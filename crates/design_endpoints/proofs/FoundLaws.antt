@@ -1,10 +1,9 @@
 -- What is found in a list has what all of the list have.
-use Rattle.std.specs.Prelude.{◌≡◌, ℕ, ◌<◌, Bool, true, false, Option, Some, None, List, [], ◌∷◌, All, find, if◌then◌else◌, length, get_or, refl}
+use Rattle.std.specs.Prelude.{◌≡◌, Bool, true, false, Option, Some, None, List, [], ◌∷◌, All, find, if◌then◌else◌}
 use Rattle.std.proofs.Common.{subst}
 use Rattle.std.proofs.lemmas.List.Elements.{All-head, All-tail}
 use Rattle.design_tree.specs.declared.leaves.Name.{Name}
 use Rattle.design_tree.specs.declared.declarations.Bundle.{Bundle}
-use Rattle.design_tree.specs.declared.declarations.ServicePort.{ServicePort}
 use Rattle.design_tree.specs.declared.declarations.Service.{Service}
 use Rattle.check_rules.specs.Scopes.{and_then, find_bundle, find_service, find_service_port}
 use Rattle.design_endpoints.specs.Endpoints.{has_good_types}

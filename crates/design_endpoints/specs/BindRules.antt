@@ -1,5 +1,5 @@
 -- The rules of binding: where a request breaks each, and what is reported.
-use Rattle.std.specs.Prelude.{ℕ, ◌+◌, Bool, not, nat_lt, Option, Some, None, Result, Ok, Err, List, [], ◌∷◌, ◌++◌, map, flat_map, find, length}
+use Rattle.std.specs.Prelude.{ℕ, Bool, not, nat_lt, Option, Some, None, Result, Ok, Err, List, map, flat_map, find, length}
 use Rattle.std.specs.List.{list_any}
 use Rattle.esi_base.specs.Answers.{◌>>=◌}
 use Rattle.channel_types.specs.declared.esi_type.EsiType.{EsiType}

@@ -1,5 +1,5 @@
 -- The endpoints of a design with their names (docs/design-text.md).
-use Rattle.std.specs.Prelude.{ℕ, Bool, true, false, List, [], ◌∷◌, ◌++◌, All, map, filter}
+use Rattle.std.specs.Prelude.{ℕ, Bool, true, false, List, ◌∷◌, ◌++◌, All, map, filter}
 use Rattle.channel_types.specs.declared.esi_type.EsiType.{EsiType}
 use Rattle.channel_types.specs.Types.{IsGoodType}
 use Rattle.esi_types.specs.declared.endpoint.Endpoint.{Endpoint}
