@@ -3,7 +3,7 @@
 
 Each named line of the table is one net, and the nets stand in the order of the passes: inputs (valid and word of each input of the
 part, then ready of each of its outputs), registers, forward nets, backward nets, next nets. It prints what a program prints that
-calls the four passes of `part_nets` on the same parts:
+calls the four passes of `buffer_stage` on the same parts:
 
     part NAME INPUTS OUTPUTS WIDTH
     out VALID WORD        for each output

@@ -1,5 +1,5 @@
-pub mod Stage
-pub mod StageFits
-pub mod StageLemmas
-pub mod Signalling
-pub mod Examples
+pub mod Passes
+pub mod PassLemmas
+pub mod GoodParts
+pub mod Outputs
+pub mod Readies

@@ -1,11 +1,16 @@
-//! The nets of stages, and of the two elements that change a channel's signalling, and the law that each of them obeys in
-//! every run of a netlist in which its nets stand.
+//! The nets of any part, pass by pass as lowering makes them: registers, forward nets, backward nets, next nets.
 #![tactic(auto)]
 
-pub mod signalling;
-pub mod stage;
+mod backward;
+mod forward;
+pub mod laid;
+mod laws;
+mod next;
+mod registers;
 
-pub use signalling::{
-    as_fifos_obey, as_vrs_obey, push_as_fifo_empty, push_as_vr_rden, push_as_vr_valid,
-};
-pub use stage::{StageNets, push_stage_next, push_stage_ready, push_stage_registers, stages_obey};
+pub use backward::emit_backward;
+pub use forward::emit_forward;
+pub use laid::{Laid, Wire};
+pub use laws::good_parts_go;
+pub use next::emit_next;
+pub use registers::emit_registers;

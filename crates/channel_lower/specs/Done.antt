@@ -5,7 +5,7 @@ use Rattle.netlist.specs.declared.part.Part.{Part}
 use Rattle.netlist.specs.Plans.{IsPlan}
 use Rattle.flat_design.specs.declared.element.Element.{Element}
 use Rattle.flat_design.specs.declared.element.Flat.{Flat}
-use Rattle.part_nets.specs.Passes.{MayGoForward, MayGoBack, MayGoOn, wire_at, ready_at}
+use Rattle.buffer_stage.specs.Passes.{MayGoForward, MayGoBack, MayGoOn, wire_at, ready_at}
 use Rattle.channel_lower.specs.declared.lowering.Lowering.{Lowering}
 use Rattle.channel_lower.specs.Lowerable.{IsLowerable, place_of}
 use Rattle.channel_lower.specs.Lowering.{element_at, part_of, laid_of, channel_at, wires_at, readies_at, server_turn, client_turn, register_turn, forward_turn, backward_turn, next_turn}

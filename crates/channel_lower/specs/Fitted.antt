@@ -14,7 +14,7 @@ use Rattle.flat_design.specs.declared.element.Element.{Element}
 use Rattle.flat_design.specs.declared.element.Flat.{Flat}
 use Rattle.flat_design.specs.Fitting.{Known, width_of, nothing, at_places, Test, AllFit, IsFittingFlat}
 use Rattle.flat_design.specs.FlatLaws.{IsFlatDesign}
-use Rattle.part_nets.specs.Passes.{input_count, output_count}
+use Rattle.buffer_stage.specs.Passes.{input_count, output_count}
 use Rattle.channel_lower.specs.Lowerable.{widths_at, FitsBetween, IsLowerable}
 use Rattle.channel_lower.specs.Lowering.{element_at, part_of, channel_at}
 

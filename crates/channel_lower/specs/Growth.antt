@@ -14,11 +14,11 @@ use Rattle.net_lists.specs.ListLaws.{with_nets-nets, length-with_nets, carries_a
 use Rattle.looped_nets.specs.LoopFits.{linked_nets, linked_widths}
 use Rattle.looped_nets.specs.Forks.{flag_register, flag_next}
 use Rattle.looped_nets.specs.Fifos.{place_register, early_next}
-use Rattle.part_nets.specs.declared.laid.Wire.{Wire}
-use Rattle.part_nets.specs.declared.laid.Laid.{Laid}
-use Rattle.part_nets.specs.Passes.{linked_up, fifo_in}
-use Rattle.part_nets.specs.GoodParts.{DoFit, DoFitBack}
-use Rattle.part_nets.specs.Outputs.{DoGive}
+use Rattle.buffer_stage.specs.declared.laid.Wire.{Wire}
+use Rattle.buffer_stage.specs.declared.laid.Laid.{Laid}
+use Rattle.buffer_stage.specs.Passes.{linked_up, fifo_in}
+use Rattle.buffer_stage.specs.GoodParts.{DoFit, DoFitBack}
+use Rattle.buffer_stage.specs.Outputs.{DoGive}
 
 pub record Grows (old new : Plan) : Type 0 where
   pub stands : (place : ℕ) (net : Net) → Stands old.nets place net → Stands new.nets place net

@@ -7,7 +7,7 @@ use Rattle.netlist.specs.declared.part.Part.{Part}
 use Rattle.net_lists.specs.Lists.{with_nets}
 use Rattle.net_lists.specs.ListLaws.{length-with_nets}
 use Rattle.flat_design.specs.declared.element.Element.{Element}
-use Rattle.part_nets.specs.Passes.{register_nets, forward_nets, backward_nets, next_nets}
+use Rattle.buffer_stage.specs.Passes.{register_nets, forward_nets, backward_nets, next_nets}
 use Rattle.channel_lower.specs.declared.lowering.Lowering.{Lowering}
 use Rattle.channel_lower.specs.Growth.{linked_up_nets}
 use Rattle.channel_lower.specs.Lowering.{turns, laid_of, wires_at, readies_at, element_at, part_of, channel_at, from_end, server_turn, client_turn, register_turn, forward_turn, backward_turn, next_turn}

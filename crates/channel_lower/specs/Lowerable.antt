@@ -6,7 +6,7 @@ use Rattle.netlist.specs.Plans.{IsWidth}
 use Rattle.flat_design.specs.declared.element.Element.{Element}
 use Rattle.flat_design.specs.declared.element.Flat.{Flat}
 use Rattle.flat_design.specs.FlatLaws.{IsFlatDesign}
-use Rattle.part_nets.specs.Passes.{input_count, output_count}
+use Rattle.buffer_stage.specs.Passes.{input_count, output_count}
 use Rattle.channel_lower.specs.Lowering.{element_at, part_of, channel_at}
 
 -- the widths of these channels

@@ -8,9 +8,9 @@ use Rattle.netlist.specs.Plans.{empty_plan}
 use Rattle.net_lists.specs.Lists.{with_nets}
 use Rattle.flat_design.specs.declared.element.Element.{Element}
 use Rattle.flat_design.specs.declared.element.Flat.{Flat}
-use Rattle.part_nets.specs.declared.laid.Wire.{Wire}
-use Rattle.part_nets.specs.declared.laid.Laid.{Laid}
-use Rattle.part_nets.specs.Passes.{wire_at, ready_at, register_nets, laid_at, forward_nets, outputs, laid_forward, backward_nets, input_readies, laid_backward, next_nets, linked_up}
+use Rattle.buffer_stage.specs.declared.laid.Wire.{Wire}
+use Rattle.buffer_stage.specs.declared.laid.Laid.{Laid}
+use Rattle.buffer_stage.specs.Passes.{wire_at, ready_at, register_nets, laid_at, forward_nets, outputs, laid_forward, backward_nets, input_readies, laid_backward, next_nets, linked_up}
 use Rattle.channel_lower.specs.declared.lowering.Lowering.{Lowering}
 
 -- the first turn, then the second, and so on, so many of them

@@ -16,8 +16,8 @@ use Rattle.net_lists.specs.ListLaws.{with_nets-nets}
 use Rattle.looped_nets.specs.Loops.{nets_upto, linked}
 use Rattle.looped_nets.specs.Forks.{flag_register, flag_next}
 use Rattle.looped_nets.specs.Fifos.{place_register, early_next, last_next}
-use Rattle.part_nets.specs.declared.laid.Laid.{Laid}
-use Rattle.part_nets.specs.Passes.{output_count, register_nets, linked_up, fifo_in}
+use Rattle.buffer_stage.specs.declared.laid.Laid.{Laid}
+use Rattle.buffer_stage.specs.Passes.{output_count, register_nets, linked_up, fifo_in}
 use Rattle.channel_lower.specs.Growth.{linked_up_nets}
 use Rattle.channel_lower.specs.Plain.{ArePlain, plain_at}
 

@@ -17,9 +17,9 @@ use Rattle.formula_nets.specs.Making.{Making, of_two, join_net, joined_to, of_pa
 use Rattle.looped_nets.specs.Loops.{nets_upto}
 use Rattle.looped_nets.specs.Forks.{fork_of, wait_nets, fork_waits, chain_nets, fork_chain, flag_nets, fork_flags, taken_nets}
 use Rattle.looped_nets.specs.Fifos.{fifo_of, count_nets, early_nets, last_nets}
-use Rattle.part_nets.specs.declared.laid.Wire.{Wire}
-use Rattle.part_nets.specs.declared.laid.Laid.{Laid}
-use Rattle.part_nets.specs.Passes.{wire_at, forward_nets, backward_nets, next_nets, fifo_in, fork_in}
+use Rattle.buffer_stage.specs.declared.laid.Wire.{Wire}
+use Rattle.buffer_stage.specs.declared.laid.Laid.{Laid}
+use Rattle.buffer_stage.specs.Passes.{wire_at, forward_nets, backward_nets, next_nets, fifo_in, fork_in}
 
 -- none of the nets is a register
 abbrev pub ArePlain : List Net → Type 0

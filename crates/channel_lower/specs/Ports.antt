@@ -1,6 +1,6 @@
 -- Where the endpoints of a lowered netlist are.
 use Rattle.std.specs.Prelude.{ℕ, List, map}
-use Rattle.part_nets.specs.Passes.{wire_at, ready_at}
+use Rattle.buffer_stage.specs.Passes.{wire_at, ready_at}
 use Rattle.channel_lower.specs.declared.lowering.Lowering.{Lowering}
 use Rattle.channel_lower.specs.declared.lowered.Port.{Port}
 

@@ -4,11 +4,11 @@ use Rattle.netlist.specs.declared.part.Part.{Part}
 use Rattle.netlist.specs.Plans.{Plan}
 use Rattle.net_lists.specs.Lists.{StandFrom, Carries}
 use Rattle.flat_design.specs.declared.element.Flat.{Flat}
-use Rattle.part_nets.specs.declared.laid.Wire.{Wire}
-use Rattle.part_nets.specs.declared.laid.Laid.{Laid}
-use Rattle.part_nets.specs.Passes.{input_count, wire_at, ready_at, register_nets, first_output, first_ready}
-use Rattle.part_nets.specs.GoodParts.{DoFit, DoFitBack}
-use Rattle.part_nets.specs.Outputs.{DoGive}
+use Rattle.buffer_stage.specs.declared.laid.Wire.{Wire}
+use Rattle.buffer_stage.specs.declared.laid.Laid.{Laid}
+use Rattle.buffer_stage.specs.Passes.{input_count, wire_at, ready_at, register_nets, first_output, first_ready}
+use Rattle.buffer_stage.specs.GoodParts.{DoFit, DoFitBack}
+use Rattle.buffer_stage.specs.Outputs.{DoGive}
 use Rattle.channel_lower.specs.declared.lowering.Lowering.{Lowering}
 use Rattle.channel_lower.specs.Lowering.{element_at, part_of, laid_of, channel_at}
 use Rattle.channel_lower.specs.Lowerable.{widths_at}

@@ -14,12 +14,12 @@ use Rattle.net_lists.specs.Lists.{with_nets, StandFrom, Carries}
 use Rattle.net_lists.specs.ListLaws.{with_nets-nets, carries_pushed, carries_more, counted_more, place_more, pushed_stand}
 use Rattle.flat_design.specs.declared.element.Element.{Element}
 use Rattle.flat_design.specs.declared.element.Flat.{Flat}
-use Rattle.part_nets.specs.declared.laid.Wire.{Wire}
-use Rattle.part_nets.specs.declared.laid.Laid.{Laid}
-use Rattle.part_nets.specs.Passes.{input_count, output_count, wire_at, ready_at, register_nets, laid_at, forward_nets, first_output, wires_upto, outputs, laid_forward, backward_nets, first_ready, nets_from, input_readies, laid_backward, next_nets, linked_up, MayGoForward, MayGoBack, MayGoOn}
-use Rattle.part_nets.specs.GoodParts.{DoFit, DoFitBack, good_parts_do_go_forward, good_parts_do_go_back, good_parts_do_go_on}
-use Rattle.part_nets.specs.Outputs.{good_parts_do_give}
-use Rattle.part_nets.specs.Readies.{good_parts_do_give_back}
+use Rattle.buffer_stage.specs.declared.laid.Wire.{Wire}
+use Rattle.buffer_stage.specs.declared.laid.Laid.{Laid}
+use Rattle.buffer_stage.specs.Passes.{input_count, output_count, wire_at, ready_at, register_nets, laid_at, forward_nets, first_output, wires_upto, outputs, laid_forward, backward_nets, first_ready, nets_from, input_readies, laid_backward, next_nets, linked_up, MayGoForward, MayGoBack, MayGoOn}
+use Rattle.buffer_stage.specs.GoodParts.{DoFit, DoFitBack, good_parts_do_go_forward, good_parts_do_go_back, good_parts_do_go_on}
+use Rattle.buffer_stage.specs.Outputs.{good_parts_do_give}
+use Rattle.buffer_stage.specs.Readies.{good_parts_do_give_back}
 use Rattle.channel_lower.specs.declared.lowering.Lowering.{Lowering}
 use Rattle.channel_lower.specs.Growth.{Grows, grows_nets, grows_linked, grown_stand, grown_fit, grown_back, grown_give}
 use Rattle.channel_lower.specs.Lowerable.{IsLowerable, widths_at, place_of}

@@ -6,8 +6,8 @@ use Rattle.netlist.specs.declared.part.Part.{Part}
 use Rattle.netlist.specs.Plans.{Plan}
 use Rattle.net_lists.specs.Lists.{with_nets}
 use Rattle.flat_design.specs.declared.element.Element.{Element}
-use Rattle.part_nets.specs.declared.laid.Laid.{Laid}
-use Rattle.part_nets.specs.Passes.{backward_nets, input_readies, laid_backward}
+use Rattle.buffer_stage.specs.declared.laid.Laid.{Laid}
+use Rattle.buffer_stage.specs.Passes.{backward_nets, input_readies, laid_backward}
 use Rattle.channel_lower.specs.declared.lowering.Lowering.{Lowering}
 use Rattle.channel_lower.specs.Lowering.{laid_of, readies_at, with_readies, backward_turn}
 

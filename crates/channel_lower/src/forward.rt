@@ -1,13 +1,13 @@
 //! The second pass: forward nets in element order.
 ghost use Rattle.std.specs.Prelude.{◌≡◌, ◌+◌, ◌<◌, ◌≤◌, length, get_or, OnOk, IfOk, IsErrOf};
-ghost use Rattle.part_nets.specs.Passes.{input_count, wire_at, forward_nets, laid_at, MayGoForward};
+ghost use Rattle.buffer_stage.specs.Passes.{input_count, wire_at, forward_nets, laid_at, MayGoForward};
 ghost use Rattle.channel_lower.specs.Lowering.{forward_turn, wires_at};
 
 use crate::lowering::Lowering;
 use esi_base::{List, NoMemory};
 use flat_design::Element;
 use netlist::{MAX_NETS, NetRefused, Part};
-use part_nets::{Laid, Wire, emit_forward};
+use buffer_stage::{Laid, Wire, emit_forward};
 use std::alloc::Global;
 
 /// The forward nets of the element with this number, which makes the next channels.

@@ -2,7 +2,7 @@
 
 use esi_base::List;
 use netlist::Netlist;
-use part_nets::{Laid, Wire};
+use buffer_stage::{Laid, Wire};
 
 /// A netlist that is being lowered, pass by pass.
 #[derive(Drop)]

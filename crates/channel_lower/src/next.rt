@@ -1,11 +1,11 @@
 //! The last pass: next nets in element order.
 ghost use Rattle.std.specs.Prelude.{◌≡◌, ◌+◌, ◌<◌, length, OnOk, IsErrOf};
-ghost use Rattle.part_nets.specs.Passes.{input_count, output_count, next_nets, MayGoOn};
+ghost use Rattle.buffer_stage.specs.Passes.{input_count, output_count, next_nets, MayGoOn};
 ghost use Rattle.channel_lower.specs.Lowering.{next_turn, laid_of};
 
 use crate::lowering::Lowering;
 use netlist::{MAX_NETS, NetRefused, Part};
-use part_nets::emit_next;
+use buffer_stage::emit_next;
 use std::alloc::Global;
 
 /// The next nets of the element with this number.

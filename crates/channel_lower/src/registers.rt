@@ -1,12 +1,12 @@
 //! The first pass: registers in element order.
 ghost use Rattle.std.specs.Prelude.{◌≡◌, ◌+◌, ◌<◌, length, OnOk, IsErrOf};
 ghost use Rattle.netlist.specs.Parts.{IsGoodPart};
-ghost use Rattle.part_nets.specs.Passes.{register_nets};
+ghost use Rattle.buffer_stage.specs.Passes.{register_nets};
 ghost use Rattle.channel_lower.specs.Lowering.{register_turn};
 
 use crate::lowering::Lowering;
 use netlist::{MAX_NETS, NetRefused, Part};
-use part_nets::emit_registers;
+use buffer_stage::emit_registers;
 use std::alloc::Global;
 
 /// The registers of one element.

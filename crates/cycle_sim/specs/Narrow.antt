@@ -1,7 +1,7 @@
 -- A net whose word is worked out anew, as a word or as a number.
 use Rattle.std.specs.Prelude.{◌≡◌, ℕ, ◌^◌, ◌<◌, ◌≤◌, if◌then◌else◌, Bool, true, false, List, [], ◌∷◌, length, map, refl}
 use Rattle.std.specs.List.{AllByRecursion}
-use Rattle.std.proofs.Common.{sym, ◌∙◌, ap, subst, set}
+use Rattle.std.proofs.Common.{sym, ◌∙◌, ap, subst}
 use Rattle.esi_base.specs.Bits.{number_of, bits_of, number_of-bits_of}
 use Rattle.esi_base.specs.BitLists.{bits_of-number_of, number_of-below}
 use Rattle.std.proofs.Math.Nat.{mod-eq_of_lt}

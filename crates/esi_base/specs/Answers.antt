@@ -33,7 +33,3 @@ abbrev pub IfRefused : {A R : Type 0} → Result A (Stop R) → (R → Type 0) �
 IfRefused (Ok value) P = Unit {0}
 IfRefused (Err (Refused refusal)) P = P refusal
 IfRefused (Err NoMemory) P = Unit {0}
-
--- The call is not refused: it gives an answer, unless memory ran out.
-abbrev pub OkUnlessMemory : {A R : Type 0} → Result A (Stop R) → Type 0
-OkUnlessMemory answer = IfRefused answer (λ refusal. ⊥)

@@ -28,10 +28,6 @@ whole-octets_of bits =
     whole-parts 8 (octet_count bits) (number_of bits)
     ∙ mod-eq_of_lt (lt_of_lt_of_le (number_of-below bits) (pow_mono (enough (length bits))))
 
--- from bits to octets and back
-pub bits_of-octets_of : (bits : List Bool) → bits_of (length bits) (whole 8 (octets_of bits)) ≡ bits
-bits_of-octets_of bits = ap (λ n. bits_of (length bits) n) (whole-octets_of bits) ∙ bits_of-number_of bits
-
 -- and from octets, whose spare bits are 0, to bits and back
 pub octets_of-bits_of : (width : ℕ) (octets : List ℕ) → AreSmall 8 octets → length octets ≡ (width + 7) / 8 → whole 8 octets < 2 ^ width → octets_of (bits_of width (whole 8 octets)) ≡ octets
 octets_of-bits_of width octets small count fits =

@@ -5,7 +5,7 @@ use Rattle.std.proofs.lemmas.List.Sums.{sum_by-cons}
 use Rattle.hpack_huffman.specs.Encoding.{encoded}
 use Rattle.hpack.specs.declared.header.Header.{Header}
 use Rattle.hpack.specs.declared.limits.TheConstants.{MAX_HEADER_LIST_SIZE}
-use Rattle.hpack.specs.Encoding.{Writing, groups_of, integer_of, string_of, marked, integer_with, text_of, literal, joins, new_field, name_index, field_index, field_by, encoded_field, table_with_field, encoded_fields, size_update, table_sized, size_updates, table_before, encoded_block}
+use Rattle.hpack.specs.Encoding.{Writing, groups_of, integer_of, string_of, marked, integer_with, text_of, literal, joins, name_index, field_index, field_by, encoded_field, table_with_field, encoded_fields, size_update, table_sized, size_updates, table_before, encoded_block}
 use Rattle.hpack.specs.Integers.{full_prefix}
 use Rattle.hpack.specs.Tables.{Table, size_of, list_size}
 use Rattle.h2_layouts.specs.declared.limit.TheConstants.{LONGEST_PAYLOAD}

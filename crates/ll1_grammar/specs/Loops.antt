@@ -20,27 +20,6 @@ pub record Turning {T S : Type 0} (g : Grammar T) (ks : Kinds) (step : S → Rea
 pub is_of_kind : (k n : ℕ) → n ≡ k → among (k ∷ []) n ≡ true
 is_of_kind k n e = by_true (n == k) true false (grind arith)
 
-pub is_of_other_kind : (k n : ℕ) → (n ≡ k → ⊥) → among (k ∷ []) n ≡ false
-is_of_other_kind k n e = by_false (n == k) true false (grind arith)
-
--- the first of two readers decides, or the second behind it
-pub first_fails : {T A B : Type 0} (p : Reader T A) (k : A → Reader T B) (ts : Lexemes T) (stop : Stop TokenRefusal) → StopsAs (p ts) stop → StopsAs ((p >>= k) ts) stop
-first_fails p k ts (Refused f) e = ap (λ z. and_then z k) e
-first_fails p k ts NoMemory e = tt
-
-pub first_reads : {T A B : Type 0} (p : Reader T A) (k : A → Reader T B) (ts : Lexemes T) (a : A) (us : Lexemes T) → p ts ≡ Ok (a, us) → (p >>= k) ts ≡ k a us
-first_reads p k ts a us e = ap (λ z. and_then z k) e
-
--- a reader that is another one there fails as that does
-pub fails_as : {T A : Type 0} (x y : Read T A) (stop : Stop TokenRefusal) → x ≡ y → StopsAs y stop → StopsAs x stop
-fails_as x y (Refused f) e h = e ∙ h
-fails_as x y NoMemory e h = tt
-
--- a call that did not fail made what it promises
-pub was_ok : {A E : Type 0} (r : Result A E) (P : Type 0) → is_err r ≡ false → OnOk r P → P
-was_ok (Ok x) P e h = h
-was_ok (Err x) P e h = absurd (cc)
-
 -- what a function answers that fails
 pub reads_err : {T A : Type 0} (read : Read T A) (result : Result A (Stop TokenRefusal)) (stop : Stop TokenRefusal) (new : Lexemes T) → result ≡ Err stop → StopsAs read stop → ReadsAs (λ value. value) read result new
 reads_err read result stop new d h = subst (λ z. ReadsAs (λ value. value) read z new) (sym d) h

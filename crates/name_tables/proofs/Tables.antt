@@ -52,9 +52,6 @@ new_index label x labels new = ap (λ b. if b then Some (length labels) else ind
     tested None e true same = refl
     tested None e false same = refl
 
-pub table_none : (indices : BTreeMap Key ℕ) (names : List Key) → indices.entries ≡ [] → IsTable indices (take 0 names)
-table_none indices names e key = rw e refl
-
 next_names : (names : List Key) (n : ℕ) (d : Key) → n < length names → map label_of (take (n + 1) names) ≡ map label_of (take n names) ++ label_of (get_or names n d) ∷ []
 next_names names n d within = map_more label_of names n d within
 

@@ -49,9 +49,6 @@ pub record RepeatWalk (first : Option ℕ) (marks : List Mark) (i : ℕ) (before
   pub names : HasNames before (map name_in (take i marks))
   pub same : least_from place (repeats_after (map name_in (take i marks)) (map occurrence_of (drop i marks))) ≡ least_from first (repeats (map occurrence_of marks))
 
-pub repeat_start : (first : Option ℕ) (marks : List Mark) (before : BTreeSet Key) → before.keys ≡ [] → RepeatWalk first marks 0 before first
-repeat_start first marks before e = record { names = has_none before e; same = refl }
-
 -- what the place of one name, if it stood before, adds
 found_next : (place : Option ℕ) (b : Bool) (at : ℕ) → least_from place (if b then at ∷ [] else []) ≡ found_after place (not b) at
 found_next place true at = refl
@@ -82,7 +79,3 @@ repeat_more first marks i d before more place is_new within walk tested updates 
           ∙ ap (λ l. least_from place (repeats_after labels (map occurrence_of l))) (sym rest)
           ∙ walk.same;
     }
-
-pub repeat_done : (first : Option ℕ) (marks : List Mark) (i : ℕ) (before : BTreeSet Key) (place : Option ℕ) → length marks ≤ i → RepeatWalk first marks i before place
-    → place ≡ least_from first (repeats (map occurrence_of marks))
-repeat_done first marks i before place past walk = rw (drop_all i marks past) at walk.same

@@ -89,7 +89,3 @@ takes_more old new w before after waiting' ports' front gone place put rest =
 -- the ends of the loop
 pub takes_none : (old : List Bits) (ports : PipeRings) → first old ≡ None → TakesAll old ports old ports
 takes_none old ports e = none_waits old ports (nothing_at_front old e)
-
-pub takes_no_more : (old : List Bits) (before after : PipeRings) → false ≡ may_take before → after ≡ before → TakesAll old before old after
-takes_no_more old before after place same =
-    subst (λ p. TakesAll old before old p) (sym same) (no_place old before (closed_place (length before.taken) (length before.entering) place))

@@ -1,6 +1,6 @@
 use Rattle.std.proofs.Common.{sym, ◌∙◌, ap}
 use Rattle.std.proofs.lemmas.Option.{get_or_from_slice_get}
-use Rattle.part_nets.specs.Passes.{laid_at}
+use Rattle.buffer_stage.specs.Passes.{laid_at}
 use Rattle.channel_lower.specs.Lowering.{readies_at}
 use Rattle.channel_lower.specs.Turned.{turned_back}
 use Rattle.channel_lower.proofs.backward.push_backward.Goals as goal

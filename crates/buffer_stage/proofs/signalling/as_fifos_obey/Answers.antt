@@ -1,5 +1,0 @@
-use Rattle.buffer_stage.specs.Signalling.{as_fifos_do_obey}
-use Rattle.buffer_stage.proofs.signalling.as_fifos_obey.Goals as goal
-
-pub returns : goal.returns
-returns c = as_fifos_do_obey

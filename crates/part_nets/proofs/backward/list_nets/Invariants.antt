@@ -1,6 +1,0 @@
-use Rattle.std.proofs.Common.{◌≡◌}
-use Rattle.part_nets.specs.Passes.{nets_from}
-use Rattle.part_nets.proofs.backward.list_nets.Given as goal
-
-abbrev pub invariant-loop-net : goal.invariant-loop-net
-invariant-loop-net l = l.nets ≡ nets_from l.first l.net

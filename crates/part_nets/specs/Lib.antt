@@ -1,5 +1,0 @@
-pub mod Passes
-pub mod PassLemmas
-pub mod GoodParts
-pub mod Outputs
-pub mod Readies

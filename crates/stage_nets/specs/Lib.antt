@@ -1,0 +1,5 @@
+pub mod Stage
+pub mod StageFits
+pub mod StageLemmas
+pub mod Signalling
+pub mod Examples
