@@ -4,11 +4,11 @@ ghost use Rattle.net_lists.specs.Lists.{with_nets, HasFront};
 ghost use Rattle.buffer_stage.specs.Passes.{input_count, output_count, backward_nets, first_ready, input_readies, nets_from, laid_backward, join_of, wire_at, ready_at, MayGoBack};
 
 use crate::laid::{Laid, Wire};
-use stage_nets::{push_as_vr_rden, push_stage_ready};
 use element_nets::{JoinNets, push_join_ready};
 use esi_base::{List, NoMemory};
 use looped_nets::{push_fifo_ready, push_fork_ready};
 use netlist::{MAX_NETS, NetRefused, Netlist, Part};
+use stage_nets::{push_as_vr_rden, push_stage_ready};
 use std::alloc::Global;
 
 /// Adds the backward nets of an element whose outputs have these ready nets, and tells the ready nets of its inputs. Of a channel

@@ -4,12 +4,12 @@ ghost use Rattle.net_lists.specs.Lists.{with_nets, HasFront};
 ghost use Rattle.buffer_stage.specs.Passes.{input_count, wire_at, forward_nets, first_output, outputs, wires_upto, output_count, join_of, laid_forward, MayGoForward};
 
 use crate::laid::{Laid, Wire};
-use stage_nets::{push_as_fifo_empty, push_as_vr_valid};
 use element_nets::{JoinNets, push_join_forward};
 use esi_base::{List, NoMemory};
 use formula_nets::push_formula;
 use looped_nets::{push_fifo_empty, push_fork_forward};
 use netlist::{MAX_BRANCHES, MAX_NETS, NetRefused, Netlist, Part};
+use stage_nets::{push_as_fifo_empty, push_as_vr_valid};
 use std::alloc::Global;
 
 /// Adds the forward nets of an element whose inputs have these wires, and tells the wires of its outputs.

@@ -4,10 +4,10 @@ ghost use Rattle.net_lists.specs.Lists.{with_nets, HasFront};
 ghost use Rattle.buffer_stage.specs.Passes.{input_count, output_count, next_nets, linked_up, stage_of, fifo_in, scan_of, fork_in, MayGoOn};
 
 use crate::laid::Laid;
-use stage_nets::{StageNets, push_stage_next};
 use element_nets::{ScanNets, push_scan_next};
 use looped_nets::{FifoPlaces, ForkPlaces, push_fifo_next, push_fork_next};
 use netlist::{MAX_NETS, NetRefused, Netlist, Part};
+use stage_nets::{StageNets, push_stage_next};
 use std::alloc::Global;
 
 /// Adds the nets of what an element holds in the next cycle, and sets them as the next nets of its registers.

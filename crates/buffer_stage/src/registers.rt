@@ -5,11 +5,11 @@ ghost use Rattle.net_lists.specs.Lists.{with_nets, HasFront};
 ghost use Rattle.buffer_stage.specs.Passes.{register_nets, laid_at};
 
 use crate::laid::{Laid, Wire};
-use stage_nets::push_stage_registers;
 use element_nets::push_scan_register;
 use esi_base::List;
 use looped_nets::{push_fifo_registers, push_fork_registers};
 use netlist::{MAX_NETS, NetRefused, Netlist, Part};
+use stage_nets::push_stage_registers;
 use std::alloc::Global;
 
 /// Adds the registers of an element with this part, which has to be good.

@@ -4,10 +4,10 @@ ghost use Rattle.buffer_stage.specs.Passes.{input_count, output_count, ready_at,
 ghost use Rattle.channel_lower.specs.Lowering.{backward_turn, laid_of, readies_at, channel_at, with_readies};
 
 use crate::lowering::Lowering;
+use buffer_stage::{Laid, Wire, emit_backward};
 use esi_base::{List, NoMemory};
 use flat_design::Element;
 use netlist::{MAX_NETS, NetRefused, Part};
-use buffer_stage::{Laid, Wire, emit_backward};
 use std::alloc::Global;
 
 /// The backward nets of the element with this number, and with them the ready nets of the channels that it takes.

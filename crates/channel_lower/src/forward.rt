@@ -4,10 +4,10 @@ ghost use Rattle.buffer_stage.specs.Passes.{input_count, wire_at, forward_nets, 
 ghost use Rattle.channel_lower.specs.Lowering.{forward_turn, wires_at};
 
 use crate::lowering::Lowering;
+use buffer_stage::{Laid, Wire, emit_forward};
 use esi_base::{List, NoMemory};
 use flat_design::Element;
 use netlist::{MAX_NETS, NetRefused, Part};
-use buffer_stage::{Laid, Wire, emit_forward};
 use std::alloc::Global;
 
 /// The forward nets of the element with this number, which makes the next channels.

@@ -1,8 +1,8 @@
 //! What the passes have made so far.
 
+use buffer_stage::{Laid, Wire};
 use esi_base::List;
 use netlist::Netlist;
-use buffer_stage::{Laid, Wire};
 
 /// A netlist that is being lowered, pass by pass.
 #[derive(Drop)]

@@ -4,8 +4,8 @@ ghost use Rattle.buffer_stage.specs.Passes.{input_count, output_count, next_nets
 ghost use Rattle.channel_lower.specs.Lowering.{next_turn, laid_of};
 
 use crate::lowering::Lowering;
-use netlist::{MAX_NETS, NetRefused, Part};
 use buffer_stage::emit_next;
+use netlist::{MAX_NETS, NetRefused, Part};
 use std::alloc::Global;
 
 /// The next nets of the element with this number.

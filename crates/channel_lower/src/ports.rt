@@ -5,9 +5,9 @@ ghost use Rattle.netlist.specs.Plans.{IsWidth};
 ghost use Rattle.channel_lower.specs.Lowering.{server_turn, client_turn};
 
 use crate::lowering::Lowering;
+use buffer_stage::Wire;
 use net_lists::push_nets;
 use netlist::{MAX_NETS, Net, NetRefused};
-use buffer_stage::Wire;
 
 /// The inputs valid and word of a to-server channel.
 pub(crate) fn push_server(lowering: &mut Lowering, width: u32) -> Result<(), NetRefused>

@@ -5,8 +5,8 @@ ghost use Rattle.buffer_stage.specs.Passes.{register_nets};
 ghost use Rattle.channel_lower.specs.Lowering.{register_turn};
 
 use crate::lowering::Lowering;
-use netlist::{MAX_NETS, NetRefused, Part};
 use buffer_stage::emit_registers;
+use netlist::{MAX_NETS, NetRefused, Part};
 use std::alloc::Global;
 
 /// The registers of one element.
