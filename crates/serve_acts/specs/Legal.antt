@@ -30,9 +30,10 @@ pub record IsDue {S : Type 0} (served : Served S) (call : Call) (t : List Act) :
   pub uncut : is_cut served.replies call.conn call.stream t ≡ false
   pub before : is_settled t ≡ false
 
--- a call waits whose stream has not ended
+-- a call waits whose stream has not ended, for a channel that there is
 pub record MayArrive {S : Type 0} (served : Served S) (call : Call) (t : List Act) : Type 0 where
   pub is_new : IsNew call.conn call.stream t
+  pub channel : call.channel < served.circuit.to_server_count
   pub stands : is_withdrawn t call ≡ false
   pub value : served.is_value call.channel call.word ≡ true
 

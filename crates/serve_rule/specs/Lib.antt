@@ -1,0 +1,14 @@
+pub mod Connection
+pub mod ConnectionLaws
+pub mod Cycle
+pub mod Handing
+pub mod Keeps
+pub mod Moves
+pub mod Performing
+pub mod Polls
+pub mod Reading
+pub mod ReadingKeeps
+pub mod SessionLaws
+pub mod Taking
+pub mod Turns
+pub mod Waiting
