@@ -4,6 +4,8 @@ pub mod Cycle
 pub mod Handing
 pub mod Keeps
 pub mod Moves
+pub mod OfferLaws
+pub mod Offers
 pub mod Performing
 pub mod Polls
 pub mod Reading

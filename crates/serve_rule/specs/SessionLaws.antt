@@ -312,3 +312,10 @@ module _ {S : Type 0} (served : Served S) where
     session_is turns =
         let all = session_played turns in
         ap (λ (l : List LogEntry). played served reader moves l []) all.told_so ∙ all.gives
+
+    -- the event and the cycles of a turn tell the event alone
+    pub worked_log : (event : Event) (turns : List Turn)
+        → log served.replies (worked served reader moves event (session served reader moves turns)) ≡ log served.replies (session served reader moves turns) ++ Happened event ∷ []
+    worked_log event turns =
+        let old : List Act = session served reader moves turns in
+        (worked_early served (Logs (log served.replies (Happens event ∷ old))) (logs_stay (log served.replies (Happens event ∷ old))) reader moves event old (session_ready turns).legal (session_ready turns).unsettled refl).is

@@ -4,4 +4,4 @@
 
 pub mod sessions;
 
-pub use sessions::{log_law, session_law};
+pub use sessions::{log_law, offer_law, session_law};
