@@ -142,7 +142,7 @@ legal_take = (
     room = refl;
   },
   (
-    record { is_new = record { no_call = refl; no_reply = refl }; stands = refl; value = refl },
+    record { is_new = record { no_call = refl; no_reply = refl }; channel = omega arith; stands = refl; value = refl },
     (tt, tt),
   ),
 )
