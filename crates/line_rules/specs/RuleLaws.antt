@@ -8,7 +8,7 @@ use Rattle.esi_base.specs.declared.place.Place.{Place}
 use Rattle.esi_base.specs.declared.place.Refusal.{Refusal}
 use Rattle.esi_base.specs.declared.stop.Stop.{Stop}
 use Rattle.esi_base.specs.declared.stop.Stop.TheVariants.{Refused, NoMemory}
-use Rattle.esi_base.specs.Answers.{AnswersAs, StopsAs, IfRefused}
+use Rattle.esi_base.specs.Answers.{AnswersAs, Reads, StopsAs, IfRefused}
 use Rattle.small_text.specs.Lines.{Part, Line, place_of, counting_lines}
 use Rattle.small_text.specs.LineLaws.{PartsAscend, each_ascends}
 use Rattle.line_rules.specs.LineTests.{LineTest, Breaks, BreaksNone, NoLater, ReportsFirst, refusal_of, judged, InOrder}
@@ -255,6 +255,29 @@ pub reads_long : {S T : Type 0} → (rules : TextRules S) (text : List ℕ) (vie
 reads_long {S = S} rules text view result h long =
     subst (λ (m : Result (List S) Refusal). AnswersAs view m result) (long_is rules text long) h
 
+-- ---- the same clauses where the answer is made of its steps alone
+
+pub value_is : {S T : Type 0} → (view : T → List S) (made : List S → T) → ((value : T) → made (view value) ≡ value) → (value : T) (result : Result T (Stop Refusal)) → AnswersAs view (Ok (view value)) result → Reads (Ok value) result
+value_is view made back value (Ok other) h =
+    let e : view value ≡ view other = cc in
+    ap Ok (sym (back value) ∙ ap made e ∙ back other)
+value_is view made back value (Err (Refused refusal)) h = absurd (cc)
+value_is view made back value (Err NoMemory) h = tt
+
+pub refusal_is : {S T : Type 0} → (view : T → List S) (refusal : Refusal) (result : Result T (Stop Refusal)) → AnswersAs view (Err refusal) result → Reads (Err refusal) result
+refusal_is view refusal (Ok value) h = absurd (cc)
+refusal_is view refusal (Err (Refused other)) h = (let e : refusal ≡ other = cc in ap Err e)
+refusal_is view refusal (Err NoMemory) h = tt
+
+-- What a reader of a whole text promises, all at once.
+pub record ReadsText {S T : Type 0} (rules : TextRules S) (view : T → List S) (text : List ℕ) (result : Result T (Stop Refusal)) : Type 0 where
+  pub found : IfOk result (λ value. IsText rules text (view value))
+  pub whole : (value : T) → IsText rules text (view value) → Reads (Ok value) result
+  pub refused : length text ≤ rules.longest → IfRefused result (FirstBreak rules [] (counting_lines text))
+  pub broken : length text ≤ rules.longest → (refusal : Refusal) → FirstBreak rules [] (counting_lines text) refusal → Reads (Err refusal) result
+  pub too_long : rules.longest < length text → Reads (Err (too_long_refusal rules)) result
+  pub only_too_long : IfRefused result (λ refusal. refusal.number ≡ rules.too_long → rules.longest < length text)
+
 -- ---- one line more of a reader that keeps the steps so far
 
 pub next_line : {S : Type 0} → (rules : TextRules S) (before : List S) (line : Line) (all rest : List Line) (step : S) (meaning : Result (List S) Refusal) → all ≡ line ∷ rest → judged line (rules.tests before line) (rules.said line) ≡ Ok step → steps_from rules before all ≡ meaning → steps_from rules (before ++ step ∷ []) rest ≡ meaning
@@ -304,3 +327,13 @@ none_has number (test ∷ rest) part others h =
       | inl e ↦ true≢false (sym (rw e at others))
       | inr e ↦ (let left : has_others number rest ≡ true = rw e at others in elim h [ inl b ↦ apart test.number number b.number_is e | inr b ↦ none_has number rest part left b ])
     ]
+
+pub reads_text : {S T : Type 0} → (rules : TextRules S) → AllInOrder rules → NoneTooLong rules → (view : T → List S) (made : List S → T) → ((value : T) → made (view value) ≡ value) → (text : List ℕ) (result : Result T (Stop Refusal)) → AnswersAs view (steps_of rules text) result → ReadsText rules view text result
+reads_text rules order none view made back text result h = record {
+  found = reads_found rules order text view result h;
+  whole = λ value is. value_is view made back value result (reads_whole rules text view result h (view value) is);
+  refused = reads_refused rules order text view result h;
+  broken = λ short refusal is. refusal_is view refusal result (reads_broken rules order text view result h short refusal is);
+  too_long = λ long. refusal_is view (too_long_refusal rules) result (reads_long rules text view result h long);
+  only_too_long = reads_only_long rules order none text view result h;
+}
