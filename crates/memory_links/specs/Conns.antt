@@ -1,5 +1,6 @@
 -- The connections of links that play a log, and what changes them.
-use Rattle.std.specs.Prelude.{ℕ, zero, suc, ◌-◌, min, true, false, if◌then◌else◌, List, [], ◌∷◌, ◌++◌, length, Option, Some, None, slice_get}
+use Rattle.std.specs.Prelude.{ℕ, zero, suc, ◌-◌, true, false, if◌then◌else◌, List, [], ◌∷◌, ◌++◌, length, Option, Some, None, slice_get}
+use Rattle.esi_links.specs.Held.{at_most}
 use Rattle.memory_links.specs.declared.conn.Conn.{Conn}
 
 -- a place for a connection that is still to open
@@ -18,11 +19,6 @@ shut conn = record conn { is_open = false }
 abbrev pub with_room : ℕ → Conn → Conn
 with_room octets conn = record conn { room = Some octets }
 
--- at most a limit, where there is one
-abbrev pub least : Option ℕ → ℕ → ℕ
-least None count = count
-least (Some limit) count = min limit count
-
 -- the room that is left behind a send that took so many octets
 abbrev pub room_left : Option ℕ → ℕ → Option ℕ
 room_left None count = None
@@ -30,7 +26,7 @@ room_left (Some room) count = Some (room - count)
 
 -- How much of a send it takes: the least of the piece, its room and what is offered, and nothing where it is not open.
 abbrev pub send_count : Option ℕ → Conn → ℕ → ℕ
-send_count piece conn offered = if conn.is_open then least piece (least conn.room offered) else 0
+send_count piece conn offered = if conn.is_open then at_most piece (at_most conn.room offered) else 0
 
 -- it after a send of which it took these octets
 abbrev pub after_send : List ℕ → Conn → Conn

@@ -1,7 +1,11 @@
 //! What holds of links that play a log, whatever was played.
-ghost use Rattle.std.specs.Prelude.{◌≡◌, ◌+◌, ◌<◌, length};
+ghost use Rattle.std.specs.Prelude.{◌≡◌, ◌+◌, ◌<◌, ◌^◌, ℕ, List, IsTrue, length};
+ghost use Rattle.std.specs.List.{list_all};
 ghost use Rattle.esi_links.specs.LinkLog.{opened_count};
-ghost use Rattle.memory_links.specs.Plays.{openings};
+ghost use Rattle.line_rules.specs.TextRules.{IsText};
+ghost use Rattle.link_log.specs.declared.step.LogStep.{LogStep};
+ghost use Rattle.link_log.specs.LogLines.{log_rules};
+ghost use Rattle.memory_links.specs.Plays.{is_sized_step, openings};
 ghost use Rattle.memory_links.specs.Told.{play};
 
 use crate::memory::MemoryLinks;
@@ -14,3 +18,11 @@ pub fn memory_links_law(links: &MemoryLinks)
 {
     let _ = &links.player;
 }
+
+/// A log that was read can be played: it meets all that `MemoryLinks::from_log` asks.
+pub fn read_log_law()
+    ensures sized { (text : List ℕ) (steps : List LogStep) → IsText log_rules text steps
+        → IsTrue (list_all is_sized_step steps) }
+    ensures few { (text : List ℕ) (steps : List LogStep) → IsText log_rules text steps
+        → openings steps < 2 ^ 32 }
+{}

@@ -10,5 +10,5 @@ mod step;
 mod step_queue;
 
 pub use conn::Conn;
-pub use law::memory_links_law;
+pub use law::{memory_links_law, read_log_law};
 pub use memory::MemoryLinks;

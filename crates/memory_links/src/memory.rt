@@ -155,6 +155,7 @@ impl Links for MemoryLinks {
         ensures no_memory_nexts { IsErrOf result LinkStop.NoMemory → next_faults_of self.new ≡ next_faults_of self.old }
         ensures event { IfOk result (λ event. event_next (play self.old) ≡ Some event) }
         ensures due { IsErrOf result LinkStop.Fault → event_next (play self.old) ≡ None }
+        ensures faults { event_next (play self.old) ≡ None → result ≡ Err fault }
         ensures told { IfOk result (λ event. play self.new ≡ after_told event (play self.old)) }
         ensures failed { IsErrOf result LinkStop.Fault → play self.new ≡ after_failed (play self.old) }
         ensures kept { IsErrOf result LinkStop.NoMemory → play self.new ≡ play self.old }

@@ -136,6 +136,7 @@ impl Player {
         requires { self.old.opened + openings self.old.steps < 2 ^ 32 }
         ensures event { IfOk result (λ event. event_next self.old ≡ Some event) }
         ensures due { IsErrOf result LinkStop.Fault → event_next self.old ≡ None }
+        ensures faults { event_next self.old ≡ None → result ≡ Err fault }
         ensures told { IfOk result (λ event. self.new ≡ after_told event self.old) }
         ensures failed { IsErrOf result LinkStop.Fault → self.new ≡ after_failed self.old }
         ensures kept { IsErrOf result LinkStop.NoMemory → self.new ≡ self.old }

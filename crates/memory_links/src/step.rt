@@ -1,5 +1,5 @@
 //! What a step of a log tells.
-ghost use Rattle.std.specs.Prelude.{◌≡◌, ◌++◌, slice_get, OnOk, OnErr, IfOk};
+ghost use Rattle.std.specs.Prelude.{◌≡◌, ◌++◌, slice_get, None, Ok, OnOk, OnErr, IfOk};
 ghost use Rattle.std.specs.Option.{option_copied};
 ghost use Rattle.memory_links.specs.Plays.{step_event, from_event, event_count, is_event as is_event_of, entries_of};
 
@@ -63,9 +63,10 @@ pub(crate) fn tell(step: Option<LogStep>, number: u32) -> Option<Event>
     }
 }
 
-/// A copy of the event that a step tells.
+/// A copy of the event that a step tells. It takes no memory where the step tells none.
 fn copy_event(alloc: Global, step: Option<&LogStep>, number: u32) -> Result<Option<Event>, NoMemory>
-    ensures { IfOk result (λ event. event ≡ step_event number (option_copied step.entry)) }
+    ensures copied { IfOk result (λ event. event ≡ step_event number (option_copied step.entry)) }
+    ensures fails { step_event number (option_copied step.entry) ≡ None → result ≡ Ok None }
 {
     match step {
         Some(LogStep::Opened) => Ok(Some(Event::Opened { conn: number })),
@@ -83,7 +84,8 @@ fn copy_event(alloc: Global, step: Option<&LogStep>, number: u32) -> Result<Opti
     }
 }
 
-/// Adds the event that a step tells to a log. Where it runs out of memory the log stays.
+/// Adds the event that a step tells to a log. Where it runs out of memory the log stays. It takes no
+/// memory where the step tells none.
 pub(crate) fn log_event(
     alloc: Global,
     log: &mut List<Entry>,
@@ -92,6 +94,7 @@ pub(crate) fn log_event(
 ) -> Result<(), NoMemory>
     ensures told { OnOk result (log.new ≡ log.old ++ entries_of (step_event number (option_copied step.entry))) }
     ensures kept { OnErr result (log.new ≡ log.old) }
+    ensures fails { step_event number (option_copied step.entry) ≡ None → result ≡ Ok tt }
 {
     match copy_event(alloc, step, number)? {
         Some(event) => log.add(Entry::Happened(event)),
