@@ -1,0 +1,3 @@
+mod Members
+mod Bodies
+pub mod Few
