@@ -1,5 +1,5 @@
 -- How a connection stands, act by act, is what its history says.
-use Rattle.std.proofs.Common.{◌≡◌, ℕ, ◌==◌, ◌||◌, not, cond, Bool, true, false, List, [], ◌∷◌, ◌++◌, refl, ap, sym, ◌∙◌, append_assoc, append-nil}
+use Rattle.std.proofs.Common.{◌≡◌, ℕ, ◌||◌, not, cond, Bool, true, false, List, [], ◌∷◌, ◌++◌, refl, ap, sym, ◌∙◌, append_assoc, append-nil}
 use Rattle.h2_history.specs.History.{Entry, after, after_all}
 use Rattle.h2_history.specs.RunLaws.{after_joined}
 use Rattle.h2_history.specs.Standing.{Standing, first_standing}

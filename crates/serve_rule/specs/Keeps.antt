@@ -1,8 +1,8 @@
 -- What each act within a part of a turn keeps, the parts of the rule keep.
-use Rattle.std.proofs.Common.{◌≡◌, ℕ, zero, suc, ◌+◌, min, ◌<◌, ◌≤◌, ◌&&◌, nat_le, Bool, true, false, Option, Some, None, List, [], ◌∷◌, length, take, drop, refl, ap, sym, ◌∙◌, subst, arith, leb-true, leb-false, take-append-drop, length-take}
+use Rattle.std.proofs.Common.{◌≡◌, ℕ, zero, suc, ◌+◌, min, ◌<◌, ◌&&◌, nat_le, Bool, true, false, Option, Some, None, List, [], ◌∷◌, length, take, drop, refl, ap, sym, ◌∙◌, subst, arith, leb-true, leb-false, take-append-drop, length-take}
 use Rattle.cycle_rules.specs.Circuit.{Bits}
 use Rattle.cycle_rules.specs.Lists.{first}
-use Rattle.cycle_rules.specs.Rings.{ring_at, front_of, has_room}
+use Rattle.cycle_rules.specs.Rings.{ring_at, has_room}
 use Rattle.cycle_rules.specs.declared.limits.TheConstants.{SESSION_VALUES}
 use Rattle.h2_history.specs.Standing.{Standing, may_put}
 use Rattle.h2_layouts.specs.declared.limit.TheConstants.{LONGEST_PAYLOAD}
@@ -14,8 +14,7 @@ use Rattle.serve_acts.specs.Connections.{connections}
 use Rattle.serve_acts.specs.Histories.{standing, is_cut}
 use Rattle.serve_acts.specs.Legal.{Allowed, MayHand, IsDue}
 use Rattle.serve_acts.specs.Machines.{machine, is_settled, has_handed}
-use Rattle.serve_acts.specs.Prefixes.{Begins}
-use Rattle.serve_acts.specs.Served.{Served, Replies}
+use Rattle.serve_acts.specs.Served.{Served}
 use Rattle.serve_acts.specs.Streams.{Held, held}
 use Rattle.serve_acts.specs.declared.call.Call.{Call}
 use Rattle.serve_rule.specs.Connection.{stands, is_off, open_streams, no_more}

@@ -1,15 +1,15 @@
 -- In a turn each open connection with unsent output is sent to once, all that waits, and nobody else is.
-use Rattle.std.proofs.Common.{◌≡◌, ℕ, suc, ◌+◌, ◌<◌, ◌==◌, ◌&&◌, ◌||◌, not, cond, Bool, true, false, is_some, List, [], ◌∷◌, ◌++◌, length, take, filter, refl, ap, sym, ◌∙◌, arith, append_assoc, append-nil, ne_eqb, eqb-true, eq-eqb, true≢false, Option}
+use Rattle.std.proofs.Common.{◌≡◌, ℕ, ◌+◌, ◌<◌, ◌==◌, ◌&&◌, ◌||◌, not, cond, Bool, true, false, is_some, List, [], ◌∷◌, ◌++◌, length, take, filter, refl, ap, sym, ◌∙◌, arith, append_assoc, append-nil, ne_eqb, eqb-true, eq-eqb, true≢false, Option}
 use Rattle.std.specs.List.{list_any}
 use Rattle.esi_links.specs.declared.links.Entry.{Entry}
-use Rattle.esi_links.specs.declared.links.Entry.TheVariants.{Happened, Sent, Dropped}
+use Rattle.esi_links.specs.declared.links.Entry.TheVariants.{Happened, Sent}
 use Rattle.esi_links.specs.declared.links.Event.{Event}
 use Rattle.esi_links.specs.declared.links.Event.TheVariants.{Opened, Closed}
 use Rattle.h2_history.specs.Standing.{Standing}
 use Rattle.serve_acts.specs.Acts.{Act}
 use Rattle.serve_acts.specs.Acts.Act.{Happens, Sends, Drops}
-use Rattle.serve_acts.specs.Connections.{opened, connections, is_connected, is_turned_away, without, admits, counted, after_event}
-use Rattle.serve_acts.specs.Histories.{unsent, is_broken, standing}
+use Rattle.serve_acts.specs.Connections.{opened, connections, is_connected, is_turned_away, admits, counted, after_event}
+use Rattle.serve_acts.specs.Histories.{unsent, is_broken}
 use Rattle.serve_acts.specs.Log.{log}
 use Rattle.serve_acts.specs.Served.{Served, Replies}
 use Rattle.serve_rule.specs.Connection.{Connection, connection_of, stands, is_over, with_act}

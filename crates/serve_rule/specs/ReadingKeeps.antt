@@ -1,5 +1,5 @@
 -- What each act within a part of a turn keeps, the processing of an event keeps.
-use Rattle.std.proofs.Common.{◌≡◌, ℕ, zero, suc, ◌+◌, ◌<◌, ◌&&◌, not, is_none, Bool, true, false, Option, Some, None, List, [], ◌∷◌, length, refl, ap, sym, ◌∙◌}
+use Rattle.std.proofs.Common.{◌≡◌, ℕ, zero, suc, ◌+◌, ◌<◌, ◌&&◌, not, is_none, Bool, true, false, Option, Some, None, List, [], ◌∷◌, length, refl}
 use Rattle.std.specs.List.{list_any}
 use Rattle.esi_links.specs.declared.links.Event.{Event}
 use Rattle.esi_links.specs.declared.links.Event.TheVariants.{Bytes, Closed}
@@ -7,7 +7,7 @@ use Rattle.h2_history.specs.History.{Entry, turn_entries}
 use Rattle.h2_layouts.specs.declared.code.TheConstants.{NO_ERROR}
 use Rattle.serve_acts.specs.Acts.{Act}
 use Rattle.serve_acts.specs.Acts.Act.{Happens, Reads, Arrives, Declines, Lists, Attaches, Resets, Returns}
-use Rattle.serve_acts.specs.Attachments.{Attachment, newest, is_free, is_free_by}
+use Rattle.serve_acts.specs.Attachments.{Attachment, newest, is_free_by}
 use Rattle.serve_acts.specs.Calls.{is_of, calls, is_withdrawn}
 use Rattle.serve_acts.specs.Connections.{is_connected}
 use Rattle.serve_acts.specs.Legal.{IsNew}
@@ -20,8 +20,7 @@ use Rattle.serve_acts.specs.declared.limits.TheConstants.{RESOURCE_EXHAUSTED, AL
 use Rattle.serve_rule.specs.Connection.{stands, is_off, goes_on, open_streams, no_more}
 use Rattle.serve_rule.specs.Keeps.{Keeps, act_keeps, performed_keeps, polled_keeps}
 use Rattle.serve_rule.specs.Performing.{performed}
-use Rattle.serve_rule.specs.Polls.{polled}
-use Rattle.serve_rule.specs.Reading.{Asking, Brought, IsAsking, Reader, returned_octets, returned_if, returned, is_fresh, arrived_unless, attached_if, answered, reset_unless, refused_and_reset, overlong_if, answered_if, reacted, after_reading, read_frame, read_step, read_by, told, read_if, heard}
+use Rattle.serve_rule.specs.Reading.{Asking, Brought, IsAsking, Reader, returned_octets, returned_if, returned, is_fresh, arrived_unless, attached_if, answered, reset_unless, overlong_if, answered_if, reacted, read_frame, read_step, read_by, told, read_if, heard}
 use Rattle.serve_rule.specs.Reading.Asking.{Value, Listing, Attaching, Failing}
 use Rattle.serve_rule.specs.Reading.Brought.{Nothing, Completed, Overlong}
 

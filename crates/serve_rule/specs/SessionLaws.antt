@@ -1,5 +1,5 @@
 -- Every session of the rule is legal, and is a function of its log.
-use Rattle.std.proofs.Common.{◌≡◌, ◌≢◌, ℕ, zero, suc, ◌+◌, ◌≤◌, ◌==◌, ◌&&◌, ◌||◌, cond, Bool, true, false, is_some, Option, Some, None, List, [], ◌∷◌, ◌++◌, length, take, drop, refl, ap, sym, ◌∙◌, arith, append_assoc, append-nil, true≢false, ne_eqb, inl, inr, take-append-drop}
+use Rattle.std.proofs.Common.{◌≡◌, ◌≢◌, ℕ, ◌+◌, ◌≤◌, ◌==◌, ◌&&◌, cond, Bool, true, false, is_some, List, [], ◌∷◌, ◌++◌, length, take, drop, refl, ap, sym, ◌∙◌, arith, append_assoc, append-nil, true≢false, ne_eqb, inl, inr, take-append-drop}
 use Rattle.cycle_rules.specs.Circuit.{Bits}
 use Rattle.esi_links.specs.declared.links.Entry.{Entry as LogEntry}
 use Rattle.esi_links.specs.declared.links.Entry.TheVariants.{Happened, Sent, Dropped}
@@ -9,8 +9,8 @@ use Rattle.h2_history.specs.Standing.{Standing}
 use Rattle.serve_acts.specs.Acts.{Act}
 use Rattle.serve_acts.specs.Acts.Act.{Happens, Sends, Drops, Hands, Settles, Cycles}
 use Rattle.serve_acts.specs.Connections.{connections, is_connected, is_turned_away}
-use Rattle.serve_acts.specs.Histories.{standing, unsent, is_broken}
-use Rattle.serve_acts.specs.Legal.{Allowed, IsLegal, MayHand, MaySend}
+use Rattle.serve_acts.specs.Histories.{unsent}
+use Rattle.serve_acts.specs.Legal.{IsLegal, MayHand}
 use Rattle.serve_acts.specs.Log.{log}
 use Rattle.serve_acts.specs.Machines.{is_settled, has_handed}
 use Rattle.serve_acts.specs.Served.{Served}
@@ -20,7 +20,7 @@ use Rattle.serve_rule.specs.Keeps.{Keeps, KeepsHands, KeepsCycle, is_within, cyc
 use Rattle.serve_rule.specs.Moves.{Moves}
 use Rattle.serve_rule.specs.Reading.{Reader, told, heard}
 use Rattle.serve_rule.specs.ReadingKeeps.{told_keeps, heard_keeps}
-use Rattle.serve_rule.specs.Turns.{Turn, worked, offered, dropped_if, without_over, all_offered, sent_to_all, turned_away, finished, after_turn, session, played, session_of}
+use Rattle.serve_rule.specs.Turns.{Turn, worked, offered, dropped_if, without_over, all_offered, sent_to_all, turned_away, finished, session, played, session_of}
 use Rattle.serve_acts.specs.declared.limits.TheConstants.{TURN_CYCLES}
 
 -- ---- what holds within a turn: the list is legal, and what no act of the event and the cycles changes is so

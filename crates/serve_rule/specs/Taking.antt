@@ -1,5 +1,5 @@
 -- The first part of a cycle: for each to-server channel in order, the values that wait are put into its ring, first come first.
-use Rattle.std.specs.Prelude.{ℕ, zero, suc, ◌+◌, nat_le, Bool, true, false, Option, Some, None, List, [], ◌∷◌, length}
+use Rattle.std.specs.Prelude.{ℕ, zero, suc, ◌+◌, nat_le, Bool, true, false, Option, Some, None, List, ◌∷◌, length}
 use Rattle.cycle_rules.specs.Lists.{first}
 use Rattle.cycle_rules.specs.declared.limits.TheConstants.{SESSION_VALUES}
 use Rattle.serve_acts.specs.Acts.{Act}

@@ -1,9 +1,9 @@
 -- The calls that wait on a channel are on that channel.
-use Rattle.std.proofs.Common.{◌≡◌, ℕ, ◌==◌, not, cond, Bool, true, false, Some, List, [], ◌∷◌, ◌++◌, drop, filter, refl, ap, sym, ◌∙◌, eqb-true}
+use Rattle.std.proofs.Common.{◌≡◌, ℕ, not, cond, Bool, true, false, Some, List, [], ◌∷◌, ◌++◌, drop, filter, refl, ap, sym, ◌∙◌, eqb-true}
 use Rattle.cycle_rules.specs.Lists.{first}
 use Rattle.serve_acts.specs.Acts.{Act}
 use Rattle.serve_acts.specs.Acts.Act.{Arrives, Ends, Takes, Refuses}
-use Rattle.serve_acts.specs.Calls.{is_on, is_of, is_taken, waiting, kept_by, without_front}
+use Rattle.serve_acts.specs.Calls.{is_on, is_of, is_taken, waiting}
 use Rattle.serve_acts.specs.declared.call.Call.{Call}
 
 abbrev AreOn : ℕ → List Call → Type 0
