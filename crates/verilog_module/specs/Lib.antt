@@ -1,0 +1,10 @@
+pub mod Modules
+pub mod Good
+pub mod Meaning
+pub mod OfNetlist
+pub mod Tokens
+pub mod Statements
+pub mod Places
+pub mod MeaningLaws
+pub mod GoodLaws
+pub mod Examples
