@@ -1,5 +1,5 @@
 -- The table of parts, one element and one body further.
-use Rattle.std.proofs.Common.{◌≡◌, ℕ, zero, suc, ◌+◌, ◌<◌, List, [], ◌∷◌, ◌++◌, map, drop, get_or, length, refl, ap, sym, ◌∙◌, arith, drop-cons}
+use Rattle.std.proofs.Common.{◌≡◌, ℕ, suc, ◌+◌, ◌<◌, List, [], ◌∷◌, ◌++◌, map, drop, get_or, length, refl, ap, sym, ◌∙◌, arith, drop-cons}
 use Rattle.std.specs.Prelude.{Result, Ok, Err}
 use Rattle.esi_base.specs.Answers.{◌>>=◌, StopsAs}
 use Rattle.esi_base.specs.declared.stop.Stop.{Stop}
@@ -14,7 +14,7 @@ use Rattle.design_scopes.specs.declared.declared.Declared.{Declared}
 use Rattle.design_scopes.specs.Resolving.{scope_in}
 use Rattle.element_parts.specs.declared.design_parts.DesignParts.{DesignParts}
 use Rattle.element_parts.specs.Numbering.{BodyParts, with_element, numbered_along}
-use Rattle.element_parts.specs.Listing.{with_typed, with_body, parts_along}
+use Rattle.element_parts.specs.Listing.{with_body, parts_along}
 use Rattle.element_parts.specs.Walk.{typed_added, body_added, bodies_added}
 
 cut : {A : Type 0} (xs : List A) (i : ℕ) (x : A) → i < length xs → x ≡ get_or xs i x → drop i xs ≡ x ∷ drop (i + 1) xs

@@ -1,11 +1,11 @@
 -- The part that stands for an operation fits the channels between which it stands.
-use Rattle.std.proofs.Common.{◌≡◌, ℕ, ◌+◌, ◌≤◌, ◌^◌, min, max, Bool, List, [], ◌∷◌, All, Some, length, map, refl, ap, sym, ◌∙◌, arith}
-use Rattle.std.specs.Prelude.{codes, nat_le, nat_lt, ◌&&◌, ◌==◌, Option, None, if◌then◌else◌}
-use Rattle.std.proofs.lemmas.Bool.{le-leb, eq-eqb, eqb-true}
+use Rattle.std.proofs.Common.{◌≡◌, ℕ, ◌+◌, ◌≤◌, ◌^◌, Bool, List, [], ◌∷◌, All, Some, length, map, refl, ap, sym, ◌∙◌, arith}
+use Rattle.std.specs.Prelude.{codes, nat_le, nat_lt, ◌&&◌, ◌==◌, None, if◌then◌else◌}
+use Rattle.std.proofs.lemmas.Bool.{le-leb, eq-eqb}
 use Rattle.std.proofs.lemmas.Option.{same_Some}
 use Rattle.std.proofs.lemmas.List.Elements.{All-head}
 use Rattle.esi_base.specs.Bits.{bits_of, length-bits_of}
-use Rattle.design_lex.specs.declared.limits.TheConstants.{WIDEST_TYPE, TOO_WIDE}
+use Rattle.design_lex.specs.declared.limits.TheConstants.{WIDEST_TYPE}
 use Rattle.channel_types.specs.declared.esi_type.EsiType.{EsiType}
 use Rattle.channel_types.specs.declared.esi_type.EsiType.TheOpen.{EsiType-F}
 use Rattle.channel_types.specs.declared.esi_type.EsiType.TheViews.{out-EsiType}

@@ -1,5 +1,5 @@
 -- Each part of the table stands for an operation.
-use Rattle.std.proofs.Common.{◌≡◌, ℕ, zero, suc, ◌+◌, max, arith, Bool, true, false, ◌⊎◌, inl, inr, List, [], ◌∷◌, ◌++◌, Option, Some, None, length, refl, ap, sym, ◌∙◌, subst}
+use Rattle.std.proofs.Common.{◌≡◌, ℕ, zero, suc, ◌+◌, max, arith, true, ◌⊎◌, inl, inr, List, [], ◌∷◌, ◌++◌, Option, Some, None, length, refl, ap, sym, ◌∙◌, subst}
 use Rattle.std.specs.Prelude.{Result, Ok, Err, Contains, slice_get, flat_map, codes, nat_le, if◌then◌else◌}
 use Rattle.std.proofs.lemmas.Bool.{cases_Bool, and_parts, leb-true}
 use Rattle.std.proofs.lemmas.List.Elements.{Contains-append_cases, Contains-append_left, Contains-append_right}
@@ -38,7 +38,7 @@ use Rattle.channel_typing.specs.Misfits.{misfits_of, made_by, known_with, known_
 use Rattle.channel_typing.specs.BodyLaws.{each_type_found}
 use Rattle.element_parts.specs.declared.design_parts.DesignParts.{DesignParts}
 use Rattle.element_parts.specs.Numbering.{BodyParts, body_parts, parts_in, with_element, numbered_along}
-use Rattle.element_parts.specs.Listing.{no_parts, with_body, parts_along, parts_of}
+use Rattle.element_parts.specs.Listing.{no_parts, with_body, parts_along}
 use Rattle.element_parts.specs.Standing as K
 use Rattle.element_parts.specs.Standing.{StandsFor, IsPartOf, EachPartStands}
 

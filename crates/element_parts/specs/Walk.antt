@@ -1,5 +1,5 @@
 -- The same, step by step, up to the first place at which a type does not fit.
-use Rattle.std.specs.Prelude.{ℕ, Result, Ok, Err, List, [], ◌∷◌}
+use Rattle.std.specs.Prelude.{ℕ, Result, Ok, List, [], ◌∷◌}
 use Rattle.esi_base.specs.Answers.{◌>>=◌}
 use Rattle.design_tree.specs.declared.statements.Statement.{Statement}
 use Rattle.check_rules.specs.Scopes.{Scope}

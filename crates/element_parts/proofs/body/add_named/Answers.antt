@@ -1,4 +1,4 @@
-use Rattle.std.proofs.Common.{◌≡◌, List, subst}
+use Rattle.std.proofs.Common.{List, subst}
 use Rattle.esi_base.specs.Answers.{AnswersAs}
 use Rattle.design_tree.specs.declared.statements.Statement.{Statement}
 use Rattle.element_order.specs.Orders.{ordered}
