@@ -1,6 +1,6 @@
 -- A run of an element is one between channels that carry the same.
-use Rattle.std.specs.Prelude.{◌≡◌, ℕ, zero, suc, ◌+◌, ◌<◌, ◌&&◌, ◌||◌, Bool, List, [], ◌∷◌, refl}
-use Rattle.std.proofs.Common.{sym, ◌∙◌, ap, subst, arith}
+use Rattle.std.specs.Prelude.{◌≡◌, ℕ, zero, suc, ◌<◌, ◌&&◌, ◌||◌, Bool, List, [], ◌∷◌, refl}
+use Rattle.std.proofs.Common.{◌∙◌, ap, subst, arith}
 use Rattle.element_laws.specs.Signals.{Bits, Signals}
 use Rattle.element_laws.specs.Histories.{Channel, IsRun}
 use Rattle.element_laws.specs.Elements.{Element, input_count, output_count, Contents, flag, StorageCycle, MapCycle, AsVrCycle, ScanCycle, BranchCycle, ForkCycle, JoinCycle, every, IsCycle, reset}

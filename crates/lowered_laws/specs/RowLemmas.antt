@@ -1,13 +1,13 @@
 -- The elements of a flat list that stand in a netlist follow its stream function.
-use Rattle.std.specs.Prelude.{◌≡◌, ℕ, ◌+◌, ◌<◌, Bool, true, false, List, [], ◌∷◌, Option, Some, None, map, get_or, slice_get, if◌then◌else◌, refl}
-use Rattle.std.proofs.Common.{sym, ◌∙◌, ap, subst, arith}
+use Rattle.std.specs.Prelude.{◌≡◌, ℕ, ◌+◌, ◌<◌, Bool, List, [], ◌∷◌, Option, Some, None, map, get_or, slice_get, refl}
+use Rattle.std.proofs.Common.{sym, ap, subst}
 use Rattle.netlist.specs.declared.part.Part.{Part}
 use Rattle.netlist.specs.Nets.{Bits}
 use Rattle.netlist.specs.Plans.{Plan}
 use Rattle.element_laws.specs.Elements.{input_count, output_count, Contents}
 use Rattle.element_laws.specs.Histories.{Channel}
 use Rattle.net_lists.specs.Runs.{ChannelNets, IsNetRun}
-use Rattle.element_rows.specs.Flat.{Placed, source, channel_count, IsFlatList}
+use Rattle.element_rows.specs.Flat.{Placed, channel_count, IsFlatList}
 use Rattle.element_rows.specs.Rows.{Running, places, AreRunning, Follows}
 use Rattle.element_rows.specs.RowLemmas.{rows_follow}
 use Rattle.element_rows.specs.Signalling.{gives_fifo, takes_fifo, AreSignalled, IsRunIfRead, AreRunningIfRead}
@@ -18,10 +18,10 @@ use Rattle.element_load.specs.LineLemmas.{loads_fall}
 use Rattle.element_load.specs.WeightLemmas.{are_weights}
 use Rattle.flat_design.specs.declared.element.Element as F
 use Rattle.flat_design.specs.declared.element.Flat.{Flat}
-use Rattle.design_flow.specs.Elements.{element_of, element_at, placed_of, row_of}
-use Rattle.lowered_laws.specs.Standing.{signalled, IsStanding}
+use Rattle.design_flow.specs.Elements.{element_at, placed_of, row_of}
+use Rattle.lowered_laws.specs.Standing.{signalled}
 use Rattle.lowered_laws.specs.StandingLemmas.{before_of, after_of, standing_runs}
-use Rattle.lowered_laws.specs.Rows.{IsStandingAt, AreStanding, StandsThere, channels_of, StandingRowsFollow, RunsAsRow, StandingRowsRun, StandingLoadsFall}
+use Rattle.lowered_laws.specs.Rows.{IsStandingAt, AreStanding, channels_of, StandingRowsFollow, StandingRowsRun, StandingLoadsFall}
 
 abbrev before_at : (plan : Plan) (part : Option Part) (inputs outputs : ℕ → ChannelNets) → IsStandingAt plan part inputs outputs → List Bits → Contents
 before_at plan None inputs outputs s = absurd s

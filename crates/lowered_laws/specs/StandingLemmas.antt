@@ -1,5 +1,5 @@
 -- What an element holds that stands in a netlist, and that it runs as its law has it.
-use Rattle.std.specs.Prelude.{◌≡◌, ℕ, zero, suc, ◌+◌, ◌<◌, Bool, true, false, List, [], ◌∷◌, if◌then◌else◌, refl}
+use Rattle.std.specs.Prelude.{◌≡◌, ℕ, ◌+◌, ◌<◌, List}
 use Rattle.std.proofs.Common.{sym, ◌∙◌, ap, subst, arith}
 use Rattle.netlist.specs.declared.formula.Formula.{Formula}
 use Rattle.netlist.specs.declared.part.Part.{Part}
