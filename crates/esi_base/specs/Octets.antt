@@ -5,7 +5,7 @@ use Rattle.std.proofs.Common.{sym, ◌∙◌, ap, arith}
 use Rattle.std.proofs.Math.Nat.{mul_comm, mod-eq_of_lt, lt_of_lt_of_le}
 use Rattle.std.proofs.Math.Pow.{pow_mono}
 use Rattle.esi_base.specs.Bits.{number_of, bits_of, number_of-bits_of, length-bits_of}
-use Rattle.esi_base.specs.BitLists.{bits_of-number_of, number_of-below, bits_of-joined}
+use Rattle.esi_base.specs.BitLists.{number_of-below, bits_of-joined}
 use Rattle.esi_base.specs.Parts.{whole, parts, part, AreSmall, field_in_part, parts-whole, whole-parts}
 
 -- as many octets as hold the bits

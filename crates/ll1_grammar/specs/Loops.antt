@@ -1,5 +1,5 @@
 -- Loops of code against `onto`: what was read so far and what is left, against the whole.
-use Rattle.std.proofs.Common.{◌≡◌, ℕ, zero, suc, ◌<◌, ◌≤◌, true, false, [], ◌∷◌, length, ◌==◌, arith, refl, sym, ap, ◌∙◌, subst, le_refl, Result, Ok, Err, is_err, OnOk}
+use Rattle.std.proofs.Common.{◌≡◌, ℕ, zero, suc, ◌<◌, ◌≤◌, true, false, [], ◌∷◌, length, ◌==◌, arith, refl, sym, ap, ◌∙◌, subst, le_refl, Result, Ok, Err}
 use Rattle.ll1_grammar.specs.Lexemes.{Lexemes}
 use Rattle.ll1_grammar.specs.Rule.{Kinds, Grammar}
 use Rattle.ll1_grammar.specs.Kinds.{among, first_token}

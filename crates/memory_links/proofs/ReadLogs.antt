@@ -1,11 +1,11 @@
 -- A log that was read can be played.
-use Rattle.std.proofs.Common.{◌≡◌, ◌≢◌, ℕ, ◌+◌, ◌<◌, ◌≤◌, Bool, true, false, List, [], ◌∷◌, ◌++◌, Option, Some, None, IsTrue, length, refl, sym, ap, ◌∙◌, inl, inr, arith, rules, nat_lt, nat_le}
+use Rattle.std.proofs.Common.{◌≡◌, ℕ, ◌+◌, ◌<◌, ◌≤◌, Bool, true, false, List, [], ◌∷◌, ◌++◌, Option, Some, None, IsTrue, length, refl, sym, ap, ◌∙◌, inl, inr, arith, rules, nat_lt, nat_le}
 use Rattle.std.specs.Prelude.{unwrap_or}
 use Rattle.std.specs.List.{list_all}
 use Rattle.std.proofs.lemmas.Bool.Decides.{nat_tests}
 use Rattle.std.proofs.lemmas.List.{length-append}
 use Rattle.std.proofs.lemmas.List.Sums.{sum_by-cons}
-use Rattle.small_text.specs.Lines.{Part, Line}
+use Rattle.small_text.specs.Lines.{Line}
 use Rattle.small_text.specs.Hexadecimal.{octets_of}
 use Rattle.small_text.specs.HexadecimalLaws.{octets_again}
 use Rattle.line_rules.specs.LineTests.{BreaksNone}

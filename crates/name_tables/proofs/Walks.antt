@@ -1,8 +1,8 @@
 -- A walk over marks that puts each name into a set.
-use Rattle.std.proofs.Common.{◌≡◌, ℕ, suc, ◌+◌, ◌<◌, ◌≤◌, Bool, true, false, not, ◌||◌, List, [], ◌∷◌, ◌++◌, map, length, get_or, take, drop, refl, ap, sym, ◌∙◌, subst, drop-cons, arith}
+use Rattle.std.proofs.Common.{◌≡◌, ℕ, suc, ◌+◌, ◌<◌, Bool, true, false, not, ◌||◌, List, [], ◌∷◌, ◌++◌, map, length, get_or, take, drop, refl, ap, sym, ◌∙◌, subst, drop-cons, arith}
 use Rattle.std.specs.Prelude.{Option, if◌then◌else◌}
 use Rattle.std.specs.BTreeSet.{BTreeSet, contains, Updates}
-use Rattle.std.proofs.lemmas.List.{map_more, drop_all}
+use Rattle.std.proofs.lemmas.List.{map_more}
 use Rattle.name_tables.specs.declared.key.Key.{Key}
 use Rattle.name_tables.specs.declared.key.Mark.{Mark}
 use Rattle.name_tables.specs.contracts.key.KeyOrd.TheImpl.{cmp-value}
