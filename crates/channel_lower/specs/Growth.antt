@@ -25,7 +25,7 @@ pub record Grows (old new : Plan) : Type 0 where
   pub carries : (net width : ℕ) → Carries old net width → Carries new net width
   pub size : length old.nets ≤ length new.nets
 
-stands_more : (nets more : List Net) (place : ℕ) (net : Net) → Stands nets place net → Stands (nets ++ more) place net
+pub stands_more : (nets more : List Net) (place : ℕ) (net : Net) → Stands nets place net → Stands (nets ++ more) place net
 stands_more nets more place net s =
     let lt = slice_get_within nets place net s in
     let d : Net = Not 0 in

@@ -39,7 +39,7 @@ numbered_at made total (e ∷ es) (suc k) n lt =
     let r = numbered_at (made + length e.sinks) total es k n.2 (omega arith) in
     record { sinks = r.sinks; sources = r.sources; next = ap (place_of made (e ∷ es)) (let s : suc k + 1 ≡ suc (k + 1) = omega arith in s) ∙ r.next }
 
-count_up-at : (p n k : ℕ) → k < n → get_or (count_up p n) k 0 ≡ p + k
+pub count_up-at : (p n k : ℕ) → k < n → get_or (count_up p n) k 0 ≡ p + k
 count_up-at p zero k lt = absurd (omega arith)
 count_up-at p (suc n) zero lt = omega arith
 count_up-at p (suc n) (suc k) lt = omega (arith, count_up-at (p + 1) n k (omega arith))
@@ -57,10 +57,10 @@ source_below made es k j placed lt = placed.sources j 0 lt
 -- ---- use
 
 -- whether a channel is this one, as a number
-abbrev one_at : ℕ → ℕ → ℕ
+abbrev pub one_at : ℕ → ℕ → ℕ
 one_at c d = if d == c then 1 else 0
 
-one_here : (c d : ℕ) → d ≡ c → one_at c d ≡ 1
+pub one_here : (c d : ℕ) → d ≡ c → one_at c d ≡ 1
 one_here c d e = ap (λ b. if b then 1 else 0) (eq-eqb d c e)
 
 one_is : (c d : ℕ) → 1 ≤ one_at c d → d ≡ c
@@ -70,12 +70,12 @@ one_is c d le =
       | inr ne ↦ absurd (let z : one_at c d ≡ 0 = ap (λ b. if b then 1 else 0) (ne_eqb d c ne) in omega (arith, z, le))
     ]
 
-total_at : (f : ℕ → ℕ) (xs : List ℕ) (k : ℕ) → k < length xs → f (get_or xs k 0) ≤ total f xs
+pub total_at : (f : ℕ → ℕ) (xs : List ℕ) (k : ℕ) → k < length xs → f (get_or xs k 0) ≤ total f xs
 total_at f [] k lt = absurd (omega arith)
 total_at f (x ∷ xs) zero lt = omega arith
 total_at f (x ∷ xs) (suc k) lt = omega (arith, total_at f xs k (omega arith))
 
-total_append : (f : ℕ → ℕ) (xs ys : List ℕ) → total f (xs ++ ys) ≡ total f xs + total f ys
+pub total_append : (f : ℕ → ℕ) (xs ys : List ℕ) → total f (xs ++ ys) ≡ total f xs + total f ys
 total_append f [] ys = omega arith
 total_append f (x ∷ xs) ys = omega (arith, total_append f xs ys)
 

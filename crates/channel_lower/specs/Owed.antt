@@ -38,13 +38,13 @@ pub record Owes (plan : Plan) (part : ℕ → Part) (registers : ℕ → ℕ) (d
 
 -- ---- nets that are added
 
-push_default : {X : Type 0} (xs : List X) (d : X) (i : ℕ) → get_or (xs ++ d ∷ []) i d ≡ get_or xs i d
+pub push_default : {X : Type 0} (xs : List X) (d : X) (i : ℕ) → get_or (xs ++ d ∷ []) i d ≡ get_or xs i d
 push_default [] d zero = refl
 push_default [] d (suc i) = refl
 push_default (x ∷ xs) d zero = refl
 push_default (x ∷ xs) d (suc i) = push_default xs d i
 
-next_kept : (plan : Plan) (nets : List Net) (r : ℕ) → next_of (with_nets plan nets) r ≡ next_of plan r
+pub next_kept : (plan : Plan) (nets : List Net) (r : ℕ) → next_of (with_nets plan nets) r ≡ next_of plan r
 next_kept plan [] r = refl
 next_kept plan (net ∷ nets) r = next_kept (with_net plan net) nets r ∙ push_default plan.nexts None r
 
@@ -128,7 +128,7 @@ set_keeps plan register next r some =
 length_set : (plan : Plan) (register next : ℕ) → length (with_next plan register next).nexts ≡ length plan.nexts
 length_set plan register next = length-set plan.nexts register (Some next)
 
-length_linked : (plan : Plan) (register next : ℕ → ℕ) (n : ℕ) → length (linked plan register next n).nexts ≡ length plan.nexts
+pub length_linked : (plan : Plan) (register next : ℕ → ℕ) (n : ℕ) → length (linked plan register next n).nexts ≡ length plan.nexts
 length_linked plan register next zero = refl
 length_linked plan register next (suc n) = length_set (linked plan register next n) (register n) (next n) ∙ length_linked plan register next n
 
@@ -164,7 +164,7 @@ linked_up_keeps (Scan reset body) laid at plan r some = set_keeps plan laid.regi
 linked_up_keeps (Fork branches) laid at plan r some = linked_keeps plan (flag_register laid.registers) (flag_next at) (length laid.readies) r some
 linked_up_keeps Join laid at plan r some = some
 
-length_upto_one : (turn : ℕ → Net) (n : ℕ) → length (nets_upto (λ k. turn k ∷ []) n) ≡ n
+pub length_upto_one : (turn : ℕ → Net) (n : ℕ) → length (nets_upto (λ k. turn k ∷ []) n) ≡ n
 length_upto_one turn zero = refl
 length_upto_one turn (suc n) = omega (arith, length-append (nets_upto (λ k. turn k ∷ []) n) (turn n ∷ []), length_upto_one turn n)
 

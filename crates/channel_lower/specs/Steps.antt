@@ -50,7 +50,7 @@ length_wires : (first : Wire) (n : ℕ) → length (wires_upto first n) ≡ n
 length_wires first zero = refl
 length_wires first (suc n) = omega (arith, length_push (wires_upto first n) (record first { valid = first.valid + 2 * n }), length_wires first n)
 
-wires-at : (first : Wire) (n j : ℕ) → j < n → wire_at (wires_upto first n) j ≡ record first { valid = first.valid + 2 * j }
+pub wires-at : (first : Wire) (n j : ℕ) → j < n → wire_at (wires_upto first n) j ≡ record first { valid = first.valid + 2 * j }
 wires-at first zero j lt = absurd (omega arith)
 wires-at first (suc n) j lt =
     let no : Wire = record { valid = 0; word = 0 } in
@@ -67,7 +67,7 @@ length_nets_from : (first n : ℕ) → length (nets_from first n) ≡ n
 length_nets_from first zero = refl
 length_nets_from first (suc n) = omega (arith, length_push (nets_from first n) (first + n), length_nets_from first n)
 
-nets_from-at : (first n j : ℕ) → j < n → ready_at (nets_from first n) j ≡ first + j
+pub nets_from-at : (first n j : ℕ) → j < n → ready_at (nets_from first n) j ≡ first + j
 nets_from-at first zero j lt = absurd (omega arith)
 nets_from-at first (suc n) j lt =
     elim (cases_lt j n) [
@@ -138,12 +138,12 @@ nil : (xs : List Net) → xs ++ [] ≡ xs
 nil [] = refl
 nil (x ∷ xs) = ap (λ ys. x ∷ ys) (nil xs)
 
-behind : (plan : Plan) (nets : List Net) → StandFrom (with_nets plan nets).nets (length plan.nets) nets
+pub behind : (plan : Plan) (nets : List Net) → StandFrom (with_nets plan nets).nets (length plan.nets) nets
 behind plan nets =
     subst (λ ns. StandFrom ns (length plan.nets) nets) (nil (plan.nets ++ [] ++ nets) ∙ ap (λ xs. xs ++ nets) (nil plan.nets) ∙ sym (with_nets-nets plan nets))
     (subst (λ at. StandFrom (plan.nets ++ [] ++ nets ++ []) at nets) (let e : length plan.nets + 0 ≡ length plan.nets = omega arith in e) (pushed_stand plan [] nets []))
 
-counted_nexts : (plan : Plan) (nets : List Net) → length plan.nexts ≡ length plan.nets → length (with_nets plan nets).nexts ≡ length (with_nets plan nets).nets
+pub counted_nexts : (plan : Plan) (nets : List Net) → length plan.nexts ≡ length plan.nets → length (with_nets plan nets).nexts ≡ length (with_nets plan nets).nets
 counted_nexts plan [] e = e
 counted_nexts plan (net ∷ nets) e = counted_nexts (with_net plan net) nets (length_push plan.nexts None ∙ ap (λ k. k + 1) e ∙ sym (length_push plan.nets net))
 
