@@ -1,0 +1,14 @@
+pub mod Pipe
+pub mod Before
+pub mod States
+pub mod Uses
+pub mod Forward
+pub mod Backward
+pub mod Apart
+pub mod Nexts
+pub mod Linked
+pub mod Parts
+pub mod Loops
+pub mod Designs
+pub mod Signals
+pub mod Whole
