@@ -1,9 +1,9 @@
 //! A netlist and the inputs of its cycles, as a line tells them.
 
-use crate::checked::{fits, may_take};
 use crate::reading::{net, number, word};
 use esi_base::{List, Word};
 use netlist::{Net, Netlist, Sealed};
+use netlist_checks::{fits, may_take};
 use std::alloc::{AllocError, Global};
 
 /// A netlist, and for each cycle the words of its inputs.

@@ -1,7 +1,6 @@
 //! Runs netlists that stand in lines, and random ones, in the simulator and by the definition's slow way.
 #![tactic(auto)]
 
-mod checked;
 mod circuit;
 mod printing;
 mod random;

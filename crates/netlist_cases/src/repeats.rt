@@ -2,12 +2,12 @@
 ghost use Rattle.std.specs.Prelude.{◌≡◌, ◌<◌};
 ghost use Rattle.netlist.specs.Settled.{AreInputs};
 
-use crate::checked::are_inputs;
 use crate::circuit::Circuit;
 use crate::printing::add_word;
 use cycle_sim::Sim;
 use esi_base::Word;
 use netlist::{Sealed, Steps};
+use netlist_checks::are_inputs;
 use std::alloc::{AllocError, Global};
 use std::sync::ledger::{Blank, Ledger};
 

@@ -1,13 +1,13 @@
 //! A circuit in the simulator, and by the definition's slow way beside it.
 ghost use Rattle.std.specs.Prelude.{◌≡◌, ◌<◌};
 
-use crate::checked::{are_held, are_inputs};
 use crate::circuit::Circuit;
 use crate::printing::add_words;
 use crate::words::{evaluated, registers_now, same_words, words_now};
 use cycle_sim::Sim;
 use esi_base::{List, NoMemory, Word};
 use netlist::{Sealed, Steps};
+use netlist_checks::{are_held, are_inputs};
 use std::alloc::{AllocError, Global};
 use std::sync::ledger::{Blank, Ledger};
 

@@ -1,9 +1,8 @@
 -- Words that are those of inputs and of registers, by a walk over all nets.
-use Rattle.std.specs.Prelude.{◌≡◌, ℕ, ◌+◌, ◌<◌, ◌≤◌, Bool, true, List, length, count_by}
+use Rattle.std.specs.Prelude.{◌≡◌, ℕ, ◌+◌, ◌<◌, ◌≤◌, true, List, length, count_by}
 use Rattle.std.proofs.Common.{sym, ◌∙◌, ap, subst, arith, inl, inr}
 use Rattle.std.proofs.lemmas.Bool.{cases_eq}
 use Rattle.std.proofs.lemmas.List.{take_all}
-use Rattle.netlist.specs.declared.net.Net.{Net}
 use Rattle.netlist.specs.declared.net.Net.TheVariants.{Input, Register}
 use Rattle.netlist.specs.Nets.{Bits, word_at, width_at, is_input}
 use Rattle.netlist.specs.Plans.{Plan, net_at, IsPlan}

@@ -1,11 +1,11 @@
-use Rattle.std.proofs.Common.{◌≡◌, ◌<◌, ◌+◌, ◌-◌, length, Bool, true, arith, subst, sym, ap, ◌∙◌}
+use Rattle.std.proofs.Common.{◌≡◌, ◌<◌, ◌+◌, length, arith, subst, sym, ap, ◌∙◌}
 use Rattle.std.specs.Prelude.{if◌then◌else◌}
 use Rattle.netlist.specs.Nets.{is_input}
 use Rattle.netlist.specs.Plans.{Plan, net_at}
-use Rattle.netlist_cases.proofs.checked.are_inputs.Goals as goal
+use Rattle.netlist_checks.proofs.checked.are_inputs.Goals as goal
 use Rattle.std.proofs.lemmas.Bool.{eqb-true}
 use Rattle.netlist.specs.InputPlaces.{input_place_next}
-use Rattle.netlist_cases.proofs.InputWords.{inputs_from, wide_next}
+use Rattle.netlist_checks.proofs.InputWords.{inputs_from, wide_next}
 
 pub loop-at-preserved : goal.loop-at-preserved
 loop-at-preserved c =

@@ -1,8 +1,8 @@
-use Rattle.std.proofs.Common.{◌≡◌, ◌<◌, ◌≤◌, ◌-◌, length, ℕ, true}
+use Rattle.std.proofs.Common.{◌≡◌, ◌<◌, ◌≤◌, length, ℕ, true}
 use Rattle.netlist.specs.Nets.{width_at, word_at, is_input}
 use Rattle.netlist.specs.Settled.{input_place}
 use Rattle.netlist.specs.Plans.{net_at}
-use Rattle.netlist_cases.proofs.checked.are_inputs.Given as goal
+use Rattle.netlist_checks.proofs.checked.are_inputs.Given as goal
 
 abbrev pub invariant-loop-at : goal.invariant-loop-at
 invariant-loop-at l = record {

@@ -1,6 +1,6 @@
 //! Tests of what the calls of a netlist ask.
 ghost use Rattle.std.specs.Prelude.{◌≡◌, ◌+◌, ◌<◌, ◌≤◌, IsTrue, IfSome, if◌then◌else◌, true, length};
-ghost use Rattle.netlist.specs.Nets.{Fits, width_at, word_at, is_input, is_register};
+ghost use Rattle.netlist.specs.Nets.{Fits, width_at, word_at, is_input};
 ghost use Rattle.netlist.specs.Plans.{IsNextOf, net_at};
 ghost use Rattle.netlist.specs.Settled.{AreInputs, AreHeld};
 

@@ -1,7 +1,7 @@
-use Rattle.std.proofs.Common.{◌≡◌, ◌-◌, length, arith, ap, ◌∙◌}
+use Rattle.std.proofs.Common.{◌≡◌, length, arith, ap, ◌∙◌}
 use Rattle.netlist.specs.Plans.{Plan}
-use Rattle.netlist_cases.proofs.checked.are_held.Goals as goal
-use Rattle.netlist_cases.proofs.InputWords.{held_from}
+use Rattle.netlist_checks.proofs.checked.are_held.Goals as goal
+use Rattle.netlist_checks.proofs.InputWords.{held_from}
 
 pub returns-clause-held : goal.returns-clause-held
 returns-clause-held c = λ t.
