@@ -1,27 +1,19 @@
 -- Octets that are added one part after the other.
-use Rattle.std.proofs.Common.{◌≡◌, ℕ, zero, suc, ◌+◌, ◌-◌, ◌*◌, ◌/◌, ◌%◌, ◌^◌, ◌<◌, ◌≤◌, List, [], ◌∷◌, ◌++◌, length, take, refl, ap, sym, ◌∙◌, arith}
+use Rattle.std.proofs.Common.{◌≡◌, ℕ, zero, suc, ◌+◌, ◌-◌, ◌*◌, ◌/◌, ◌%◌, ◌^◌, ◌<◌, ◌≤◌, List, [], ◌∷◌, ◌++◌, length, refl, ap, sym, ◌∙◌, arith}
 use Rattle.std.proofs.lemmas.Bool.{lt-ltb, le-ltb, cond-true, cond-false}
-use Rattle.std.proofs.lemmas.List.{append_assoc, append-nil, take_at}
+use Rattle.std.proofs.lemmas.List.{append_assoc, append-nil}
 use Rattle.std.proofs.Math.Nat.{pow-succ'}
 use Rattle.hpack.specs.Integers.{full_prefix}
 use Rattle.hpack.specs.Extends.{Extends}
-use Rattle.hpack.specs.Encoding.{groups_of, integer_of, marked, integer_with}
+use Rattle.hpack_huffman.specs.Encoding.{encoded}
+use Rattle.hpack.specs.declared.limits.TheConstants.{STRING_BITS, PLAIN_MARK}
+use Rattle.hpack.specs.Encoding.{groups_of, integer_of, marked, integer_with, string_of, text_of}
 
 pub extends_none : (old new : List ℕ) → new ≡ old → Extends old new
 extends_none old new same = record { more = []; whole = same ∙ sym (append-nil old) }
 
-pub extends_more : (old now new more : List ℕ) → now ≡ old ++ more → Extends now new → Extends old new
-extends_more old now new more whole e = record { more = more ++ e.more; whole = e.whole ∙ ap (λ o. o ++ e.more) whole ∙ append_assoc old more e.more }
-
 pub extends_after : (old now new more : List ℕ) → Extends old now → new ≡ now ++ more → Extends old new
 extends_after old now new more e added = record { more = e.more ++ more; whole = added ∙ ap (λ o. o ++ more) e.whole ∙ append_assoc old e.more more }
-
-pub extends_same : (old now new : List ℕ) → Extends old now → new ≡ now → Extends old new
-extends_same old now new e same = record { more = e.more; whole = same ∙ e.whole }
-
--- what was there before is what is cut
-pub cut_back : (old new : List ℕ) (end : ℕ) → end ≡ length old → Extends old new → take end new ≡ old
-cut_back old new end is e = ap (take end) e.whole ∙ take_at old e.more end (sym is)
 
 suc_one : (k : ℕ) → suc k + 1 ≡ suc (k + 1)
 suc_one k = omega arith
@@ -74,11 +66,22 @@ pub integer_long : (bits n : ℕ) → full_prefix bits ≤ n → integer_of bits
 unfolding integer_of
 integer_long bits n high = cond-false _ _ _ (le-ltb n (full_prefix bits) high)
 
-pub long_written : (old now new : List ℕ) (bits n : ℕ) → full_prefix bits ≤ n → now ≡ old ++ full_prefix bits ∷ [] → new ≡ now ++ groups_of 4 (n - full_prefix bits) → new ≡ old ++ integer_of bits n
-long_written old now new bits n high first groups =
-    groups ∙ ap (λ o. o ++ groups_of 4 (n - full_prefix bits)) first ∙ append_assoc old (full_prefix bits ∷ []) (groups_of 4 (n - full_prefix bits)) ∙ ap (λ o. old ++ o) (sym (integer_long bits n high))
-
--- the same below a mark
+-- an integer below a mark
 pub long_marked : (old now new : List ℕ) (mark bits n : ℕ) → full_prefix bits ≤ n → now ≡ old ++ (mark + full_prefix bits) ∷ [] → new ≡ now ++ groups_of 4 (n - full_prefix bits) → new ≡ old ++ integer_with mark bits n
 long_marked old now new mark bits n high first groups =
     groups ∙ ap (λ o. o ++ groups_of 4 (n - full_prefix bits)) first ∙ append_assoc old ((mark + full_prefix bits) ∷ []) (groups_of 4 (n - full_prefix bits)) ∙ ap (λ o. old ++ marked mark o) (sym (integer_long bits n high))
+
+-- ---- strings
+
+plain_integer : (octets : List ℕ) → marked PLAIN_MARK octets ≡ octets
+plain_integer [] = refl
+plain_integer (octet ∷ octets) = ap (λ o. o ∷ octets) (let none : PLAIN_MARK + octet ≡ octet = omega arith in none)
+
+-- a string whose code is no shorter, by its length and its octets
+pub plain_text : (old now new text : List ℕ) (count : ℕ) → count ≡ length (encoded text) → length text ≤ count → now ≡ old ++ integer_with PLAIN_MARK STRING_BITS (length text) → new ≡ now ++ text → new ≡ old ++ text_of text
+unfolding string_of
+plain_text old now new text count is high head body =
+    body
+    ∙ ap (λ o. o ++ text) (head ∙ ap (λ o. old ++ o) (plain_integer (integer_of STRING_BITS (length text))))
+    ∙ append_assoc old (integer_of STRING_BITS (length text)) text
+    ∙ ap (λ o. old ++ o) (sym (cond-false _ _ _ (le-ltb (length (encoded text)) (length text) (omega (arith, is, high)))))

@@ -39,9 +39,6 @@ pub index_missed : (p : Header → Bool) (from : ℕ) (entries : List Header) (a
     → first_index p from (drop at entries) ≡ first_index p (from + 1) (drop (at + 1) entries)
 index_missed p from entries at entry stands missed = ap (first_index p from) (drop_some entries at entry stands) ∙ cond-false _ _ _ missed
 
-pub index_none : (p : Header → Bool) (from : ℕ) (entries : List Header) (at : ℕ) → slice_get entries at ≡ None → first_index p from (drop at entries) ≡ None
-index_none p from entries at gone = ap (first_index p from) (drop_none entries at gone)
-
 -- ---- the static table
 
 pub static_found : (p : Header → Bool) (at : ℕ) → at < 61 → p (field (piece (2 * at)) (piece (2 * at + 1))) ≡ true → first_index p (at + 1) (drop at static_table) ≡ Some (at + 1)

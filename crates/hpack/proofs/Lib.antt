@@ -11,6 +11,7 @@ mod PrefixLemmas
 mod ReaderLaws
 mod RepresentationLaw
 mod RuleLemmas
+mod SpanLaws
 mod StaticLemmas
 mod StringBack
 mod StringLaw

@@ -34,12 +34,6 @@ pair_at (suc count) at (suc i) h = pair_at count (at + 1) i (omega arith) ∙ ap
 pub static_pair : (at : ℕ) → at < 61 → slice_get static_table at ≡ Some (field (piece (2 * at)) (piece (2 * at + 1)))
 static_pair at h = ap (λ t. slice_get t at) (sym pairs) ∙ pair_at 61 0 at h ∙ ap (λ k. Some (piece_pair k)) (omega arith)
 
--- an item of two lists that are listing_with
-pub slice_get-append_left : {A : Type 0} (xs ys : List A) (i : ℕ) → i < length xs → slice_get (xs ++ ys) i ≡ slice_get xs i
-slice_get-append_left [] ys i h = absurd (omega arith)
-slice_get-append_left (x ∷ xs) ys zero h = refl
-slice_get-append_left (x ∷ xs) ys (suc i) h = slice_get-append_left xs ys i (omega arith)
-
 suc_add : (m n : ℕ) → suc m + n ≡ suc (m + n)
 suc_add m n = omega arith
 
@@ -47,13 +41,7 @@ pub slice_get-append_right : {A : Type 0} (xs ys : List A) (i : ℕ) → slice_g
 slice_get-append_right [] ys i = ap (slice_get ys) (omega arith)
 slice_get-append_right (x ∷ xs) ys i = ap (slice_get (x ∷ (xs ++ ys))) (suc_add (length xs) i) ∙ slice_get-append_right xs ys i
 
--- an entry of the static table, and one after it
-pub entry_static : (table : Table) (index : ℕ) (found : Option Header) → (index ≡ 0 → ⊥) → index - 1 < 61 → slice_get static_table (index - 1) ≡ found → entry_at table index ≡ entry_of found
-unfolding entry_at
-entry_static table index found some low e =
-    let within : index - 1 < length static_table = let n = length_static_table in omega arith in
-    cond-false _ _ _ (ne_eqb index 0 some) ∙ ap entry_of (slice_get-append_left static_table table.entries (index - 1) within ∙ e)
-
+-- an entry after those of the static table
 pub entry_dynamic : (table : Table) (index : ℕ) (found : Option Header) → (index ≡ 0 → ⊥) → 61 ≤ index - 1 → found ≡ slice_get table.entries (index - 1 - 61) → entry_at table index ≡ entry_of found
 unfolding entry_at
 entry_dynamic table index found some high e =

@@ -13,6 +13,7 @@ pub mod RepresentationReading
 pub mod Representations
 pub mod Rules
 pub mod Sought
+pub mod Spans
 pub mod StaticPieces
 pub mod StaticTable
 pub mod StringReading

@@ -1,7 +1,7 @@
 //! The dynamic table (RFC 7541, sections 2.3.2 and 4).
 ghost use Rattle.std.specs.Prelude.{◌≡◌, ◌<◌, ◌≤◌, ◌+◌, IfOk, OnOk, length, slice_get};
 ghost use Rattle.std.specs.Option.{option_copied};
-ghost use Rattle.hpack.specs.Encoding.{first_index, joins};
+ghost use Rattle.hpack.specs.Encoding.{first_index};
 ghost use Rattle.hpack.specs.Sought.{passes};
 ghost use Rattle.hpack.specs.Tables.{size_of, list_size, fitting, table_with, table_limited, new_table};
 
@@ -91,14 +91,6 @@ impl DynamicTable {
             size: self.size,
             limit: self.limit,
         })
-    }
-
-    /// Whether an entry for the header fits into the table, which is then emptied for it as far as need
-    /// be.
-    pub(crate) fn takes(&self, header: &Header) -> bool
-        ensures { result ≡ joins self.now header.now }
-    {
-        header.fits(self.limit)
     }
 
     /// Adds an entry and evicts the oldest ones (RFC 7541, section 4.4).

@@ -52,7 +52,7 @@ fn write_new(table: &DynamicTable, header: &Header, out: &mut Octets) -> Result<
     ensures extends { OnErr result (Extends out.old out.new) }
 {
     let named = index_of(table, Sought::Name, header);
-    if table.takes(header) {
+    if header.fits(table.limit()) {
         write_literal(WITH_INDEXING_MARK, WITH_INDEXING_BITS, named, header, out)
     } else {
         write_literal(
@@ -92,7 +92,7 @@ fn join(alloc: Global, table: &mut DynamicTable, header: &Header) -> Result<(), 
     requires { size_of header.now ≤ MAX_HEADER_LIST_SIZE }
     ensures { OnOk result (table.new ≡ table_joined table.old header.now) }
 {
-    if table.takes(header) {
+    if header.fits(table.limit()) {
         table.insert(header.copied(alloc)?)
     } else {
         Ok(())

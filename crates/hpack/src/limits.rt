@@ -64,11 +64,7 @@ const _: () = prove!(STRING_BITS == 7);
 /// The bits with which representations begin, above the prefixes of their integers (RFC 7541, section 6).
 pub(crate) const INDEXED_MARK: u8 = 0b1000_0000;
 
-const _: () = prove!(INDEXED_MARK == 128);
-
 pub(crate) const WITH_INDEXING_MARK: u8 = 0b0100_0000;
-
-const _: () = prove!(WITH_INDEXING_MARK == 64);
 
 pub(crate) const WITHOUT_INDEXING_MARK: u8 = 0;
 
@@ -76,9 +72,7 @@ const _: () = prove!(WITHOUT_INDEXING_MARK == 0);
 
 pub(crate) const SIZE_UPDATE_MARK: u8 = 0b0010_0000;
 
-const _: () = prove!(SIZE_UPDATE_MARK == 32);
-
-/// The bit with which a string begins that is Huffman coded (RFC 7541, section 5.2).
+/// The bit with which a string begins: whether it is Huffman coded (RFC 7541, section 5.2).
 pub(crate) const CODED_MARK: u8 = 0b1000_0000;
 
-const _: () = prove!(CODED_MARK == 128);
+pub(crate) const PLAIN_MARK: u8 = 0;

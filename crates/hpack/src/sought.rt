@@ -6,8 +6,7 @@ ghost use Rattle.hpack.specs.Sought.{passes};
 
 use crate::dynamic_table::DynamicTable;
 use crate::header::Header;
-use crate::limits::STATIC_ENTRIES;
-use crate::static_table::piece;
+use crate::static_table::{piece, span_of};
 
 /// What of a header an entry has to have.
 #[derive(Clone, Copy, Debug, PartialEq, Eq)]
@@ -34,7 +33,8 @@ impl Sought {
 fn static_index(sought: Sought, header: &Header) -> Option<u32>
     ensures { result ≡ first_index (passes sought header.now) 1 static_table }
 {
-    for at in 0..STATIC_ENTRIES {
+    let (from, to) = span_of(header.name.as_slice());
+    for at in from..to {
         if sought.is_in(header, piece(2 * at), piece(2 * at + 1)) {
             return Some(at as u32 + 1);
         }

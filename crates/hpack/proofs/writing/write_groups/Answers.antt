@@ -7,7 +7,7 @@ pub loop-rest-init : goal.loop-rest-init
 loop-rest-init c = none_written c.args.out.now c.args.n (omega arith)
 
 pub loop-rest-preserved : goal.loop-rest-preserved
-loop-rest-preserved c = one_written _ _ _ _ _ c.loop-rest.invariant c.loop-rest-test.true c.in-Ok.ensures.written
+loop-rest-preserved c = one_written _ _ _ _ _ c.loop-rest.invariant c.loop-rest-test.true c.in-Ok.ensures.added
 
 pub returns-clause-written : goal.returns-clause-written
-returns-clause-written c = on_ok_weaker c.write_octet-2.result (λ e. all_written _ _ _ _ _ c.loop-rest.invariant c.loop-rest-test.false e) c.write_octet-2.ensures.written
+returns-clause-written c = on_ok_weaker c.add-2.result (λ e. all_written _ _ _ _ _ c.loop-rest.invariant c.loop-rest-test.false e) c.add-2.ensures.added
