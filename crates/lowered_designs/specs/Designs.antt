@@ -4,23 +4,18 @@ use Rattle.netlist.specs.declared.part.Part.{Part}
 use Rattle.netlist.specs.Nets.{Bits}
 use Rattle.netlist.specs.Plans.{IsPlan}
 use Rattle.element_laws.specs.Histories.{KeepsOffers}
-use Rattle.net_lists.specs.Runs.{ChannelNets, IsNetRun}
 use Rattle.element_rows.specs.Flat.{among}
 use Rattle.element_rows.specs.Rows.{Follows}
 use Rattle.element_rows.specs.Signalling.{AreSignalled}
 use Rattle.element_load.specs.Load.{AllCanTake, weight}
 use Rattle.element_load.specs.LoadLaws.{OffersLine, LoadFalls}
+use Rattle.net_lists.specs.Runs.{IsNetRun}
 use Rattle.flat_design.specs.declared.element.Flat.{Flat}
-use Rattle.buffer_stage.specs.Passes.{wire_at, ready_at}
-use Rattle.channel_lower.specs.declared.lowering.Lowering.{Lowering}
 use Rattle.channel_lower.specs.Lowerable.{IsLowerable}
 use Rattle.channel_lower.specs.Lowering.{lowered}
 use Rattle.design_flow.specs.Elements.{row_of}
 use Rattle.lowered_laws.specs.Rows.{StandsThere, channels_of, RunsAsRow}
-
--- the nets of a channel
-abbrev pub channel_nets : Lowering → ℕ → ChannelNets
-channel_nets s c = record { valid = (wire_at s.wires c).valid; word = (wire_at s.wires c).word; ready = ready_at s.readies c }
+use Rattle.lowered_nets.specs.Elements.{channel_nets}
 
 -- Channels of a flat list with FIFO signalling are those that a fifo or an as_fifo makes; just an as_vr takes them, and none is handed out.
 pub record AreSignalledWell (parts : List Part) (flat : Flat) (servers : ℕ) (clients : List ℕ) (is_fifo : ℕ → Bool) : Type 0 where

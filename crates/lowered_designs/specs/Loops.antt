@@ -1,24 +1,24 @@
 -- A FIFO and a fork stand between their channels, once all their nets do.
-use Rattle.std.specs.Prelude.{◌≡◌, ℕ, zero, suc, ◌+◌, ◌-◌, ◌*◌, ◌<◌, ◌≤◌, ◌++◌, ◌^◌, false, List, [], ◌∷◌, Some, length, get_or, replicate, refl}
+use Rattle.std.specs.Prelude.{◌≡◌, ℕ, zero, suc, ◌+◌, ◌-◌, ◌*◌, ◌<◌, ◌++◌, ◌^◌, false, List, [], ◌∷◌, length, replicate, refl}
 use Rattle.std.proofs.Common.{sym, ◌∙◌, ap, subst, arith, length-append}
+use Rattle.esi_base.specs.Bits.{bits_of}
 use Rattle.netlist.specs.declared.net.Net.{Net}
 use Rattle.netlist.specs.declared.net.Net.TheVariants.{Register, Const, Not, Equal}
-use Rattle.netlist.specs.declared.part.Part.{Part}
 use Rattle.netlist.specs.declared.part.Part.TheVariants.{Fifo, Fork}
-use Rattle.netlist.specs.Plans.{Plan, next_of}
-use Rattle.esi_base.specs.Bits.{bits_of}
+use Rattle.netlist.specs.Plans.{Plan}
 use Rattle.net_lists.specs.Lists.{StandFrom}
 use Rattle.net_lists.specs.ListLaws.{stand_front, stand_behind}
 use Rattle.net_lists.specs.Runs.{ChannelNets}
 use Rattle.looped_nets.specs.CountBits.{count_is_least, count_bits_width}
-use Rattle.looped_nets.specs.Fifos.{FifoNets, depth, slot_of, slot_register, count_nets, slot_place, early_nets, last_nets, slot_next, count_bits, fifo_of}
-use Rattle.looped_nets.specs.Forks.{ForkNets, branches, fork_registers, branch_nets, wait_nets, fork_waits, chain, chain_nets, fork_chain, fork_ready, taken_nets, fork_flags, flag_next, flag_place, fork_of}
+use Rattle.looped_nets.specs.Fifos.{FifoNets, depth, slot_register, count_nets, slot_place, early_nets, last_nets, count_bits, fifo_of}
+use Rattle.looped_nets.specs.Forks.{ForkNets, branches, fork_registers, branch_nets, wait_nets, fork_waits, chain_nets, fork_chain, fork_ready, taken_nets, fork_flags, fork_of}
 use Rattle.looped_nets.specs.Loops.{nets_upto, ArePlaces, behind_upto}
 use Rattle.buffer_stage.specs.declared.laid.Wire.{Wire}
 use Rattle.buffer_stage.specs.declared.laid.Laid.{Laid}
 use Rattle.buffer_stage.specs.Passes.{wire_at, ready_at, fifo_in, fork_in}
 use Rattle.lowered_laws.specs.Standing.{FifoStands, ForkStands}
-use Rattle.lowered_designs.specs.Parts.{HasAll, channel, first_in, first_out}
+use Rattle.lowered_nets.specs.Elements.{channel, HasAll}
+use Rattle.lowered_designs.specs.Parts.{first_in, first_out}
 
 -- turns that are the same make the same nets
 same_upto : (f g : ℕ → List Net) → ((i : ℕ) → f i ≡ g i) → (n : ℕ) → nets_upto f n ≡ nets_upto g n

@@ -1,50 +1,25 @@
 -- Each part stands between its channels, once all its nets do.
-use Rattle.std.specs.Prelude.{◌≡◌, ℕ, zero, suc, ◌+◌, ◌-◌, ◌*◌, ◌<◌, ◌≤◌, ◌==◌, ◌++◌, ◌^◌, if◌then◌else◌, Bool, true, false, List, [], ◌∷◌, Option, Some, None, length, get_or, replicate, refl}
-use Rattle.std.proofs.Common.{sym, ◌∙◌, ap, subst, arith, length-append}
+use Rattle.std.specs.Prelude.{◌≡◌, ℕ, ◌+◌, ◌*◌, ◌<◌, ◌==◌, if◌then◌else◌, Bool, true, false, List, [], ◌∷◌, Option, Some, None, length, get_or, refl}
+use Rattle.std.proofs.Common.{sym, ◌∙◌, ap, subst, arith}
 use Rattle.std.proofs.lemmas.Bool.{eqb-true}
-use Rattle.netlist.specs.declared.net.Net.{Net}
-use Rattle.netlist.specs.declared.net.Net.TheVariants.{Register, Const, Not, And, Equal}
+use Rattle.netlist.specs.declared.net.Net.TheVariants.{And}
 use Rattle.netlist.specs.declared.formula.Formula.{Formula}
 use Rattle.netlist.specs.declared.part.Part.{Part}
-use Rattle.netlist.specs.declared.part.Part.TheVariants.{Stage, Fifo, AsFifo, AsVr, Map, Scan, Fork, Join}
+use Rattle.netlist.specs.declared.part.Part.TheVariants.{Stage, AsFifo, AsVr, Map, Scan, Join}
 use Rattle.netlist.specs.Formulas.{size}
 use Rattle.netlist.specs.Nets.{Bits, width_at}
-use Rattle.netlist.specs.Parts.{IsGoodPart, part_width, only_width}
-use Rattle.netlist.specs.Plans.{Plan, next_of, IsPlan}
-use Rattle.esi_base.specs.Bits.{bits_of}
+use Rattle.netlist.specs.Parts.{part_width, only_width}
+use Rattle.netlist.specs.Plans.{Plan}
 use Rattle.net_lists.specs.Lists.{StandFrom, Carries}
-use Rattle.net_lists.specs.ListLaws.{stand_first, stand_front, stand_behind, register_carries}
+use Rattle.net_lists.specs.ListLaws.{stand_first, register_carries}
 use Rattle.net_lists.specs.Runs.{ChannelNets}
-use Rattle.formula_nets.specs.Making.{formula_nets, formula_net, formula_size}
-use Rattle.looped_nets.specs.CountBits.{IsLeast, IsCountWidth, count_is_least, count_bits_width}
-use Rattle.looped_nets.specs.Fifos.{FifoNets, depth, slot_of, slot_register, count_register, count_nets, slot_place, early_nets, last_nets, slot_next, count_bits, fifo_of, HasFifo}
-use Rattle.looped_nets.specs.Forks.{ForkNets, branches, fork_registers, fork_front, fork_forward, wait_nets, fork_waits, chain, chain_nets, fork_chain, fork_ready, taken_nets, fork_flags, flag_place, fork_of, HasFork}
-use Rattle.looped_nets.specs.Loops.{nets_upto, ArePlaces, behind_upto}
+use Rattle.formula_nets.specs.Making.{formula_net}
 use Rattle.buffer_stage.specs.declared.laid.Wire.{Wire}
 use Rattle.buffer_stage.specs.declared.laid.Laid.{Laid}
-use Rattle.buffer_stage.specs.GoodParts.{DoFit, DoFitBack, one_width}
-use Rattle.buffer_stage.specs.Passes.{input_count, output_count, wire_at, ready_at, register_nets, forward_nets, first_output, backward_nets, first_ready, stage_of, fifo_in, scan_of, fork_in, join_of}
-use Rattle.lowered_laws.specs.Standing.{StageStands, FifoStands, AsFifoStands, AsVrStands, MapStands, ScanStands, ForkStands, JoinStands, IsStanding}
-use Rattle.lowered_designs.specs.Linked.{IsLinked}
-
-abbrev pub channel : ℕ → ℕ → ℕ → ChannelNets
-channel valid word ready = record { valid = valid; word = word; ready = ready }
-
--- All that a part has in a netlist, between the nets of these channels.
-pub record HasAll (plan : Plan) (part : Part) (laid : Laid) (widths : List ℕ) (inputs outputs : ℕ → ChannelNets) : Type 0 where
-  pub kept : IsPlan plan
-  pub good : IsGoodPart part
-  pub width : ℕ
-  pub gives : part_width part widths ≡ Some width
-  pub registers : StandFrom plan.nets laid.registers (register_nets part)
-  pub forward : StandFrom plan.nets laid.forward (forward_nets part laid.registers laid.inputs laid.forward)
-  pub backward : StandFrom plan.nets laid.backward (backward_nets part laid laid.readies laid.backward)
-  pub linked : IsLinked plan part laid
-  pub fit : DoFit plan part laid.inputs widths
-  pub back : DoFitBack plan part laid.readies
-  pub output : laid.output ≡ first_output part laid.registers laid.inputs laid.forward
-  pub ins : (j : ℕ) → j < input_count part → inputs j ≡ channel (wire_at laid.inputs j).valid (wire_at laid.inputs j).word (first_ready part laid.readies laid.backward + j)
-  pub outs : (j : ℕ) → j < output_count part → outputs j ≡ channel (laid.output.valid + 2 * j) laid.output.word (ready_at laid.readies j)
+use Rattle.buffer_stage.specs.GoodParts.{one_width}
+use Rattle.buffer_stage.specs.Passes.{input_count, output_count, wire_at, ready_at, first_output, first_ready, stage_of, scan_of, join_of}
+use Rattle.lowered_laws.specs.Standing.{StageStands, AsFifoStands, AsVrStands, MapStands, ScanStands, JoinStands}
+use Rattle.lowered_nets.specs.Elements.{channel, HasAll}
 
 -- ---- widths
 

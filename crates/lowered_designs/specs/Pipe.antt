@@ -6,13 +6,13 @@ use Rattle.netlist.specs.declared.net.Net.TheVariants.{Input, Register, Not, And
 use Rattle.netlist.specs.declared.part.Part.{Part}
 use Rattle.netlist.specs.declared.part.Part.TheVariants.{Stage}
 use Rattle.netlist.specs.Plans.{Plan, empty_plan}
+use Rattle.element_rows.specs.Flat.{sum_below, total}
 use Rattle.net_lists.specs.Lists.{StandFrom}
 use Rattle.net_lists.specs.ListLaws.{pushed_stand}
 use Rattle.net_lists.specs.Runs.{ChannelNets}
-use Rattle.element_rows.specs.Flat.{sum_below, total}
-use Rattle.flat_design.specs.declared.element.Flat.{Flat}
 use Rattle.stage_nets.specs.declared.stage.StageNets.{StageNets}
 use Rattle.stage_nets.specs.Stage.{stage_registers, stage_ready, stage_next, HasStage}
+use Rattle.flat_design.specs.declared.element.Flat.{Flat}
 use Rattle.lowered_laws.specs.Standing.{StageStands}
 use Rattle.lowered_laws.specs.Rows.{StandsThere}
 

@@ -1,38 +1,28 @@
 -- A flat list stands in the netlist that it is lowered to.
-use Rattle.std.specs.Prelude.{◌≡◌, ℕ, zero, suc, ◌+◌, ◌*◌, ◌<◌, ◌≤◌, Bool, List, [], ◌∷◌, Option, Some, length, get_or, slice_get, refl}
+use Rattle.std.specs.Prelude.{◌≡◌, ℕ, suc, ◌+◌, ◌<◌, Bool, List, [], ◌∷◌, Option, Some, length, slice_get, refl}
 use Rattle.std.proofs.Common.{sym, ◌∙◌, ap, subst, arith}
-use Rattle.std.proofs.lemmas.List.{get_or-map}
 use Rattle.std.proofs.lemmas.Option.{slice_get-get_or}
 use Rattle.netlist.specs.declared.part.Part.{Part}
 use Rattle.netlist.specs.declared.part.Part.TheVariants.{Stage, Fifo, AsFifo, AsVr, Map, Scan, Fork, Join}
 use Rattle.netlist.specs.Plans.{Plan, IsPlan}
 use Rattle.element_laws.specs.Elements as laws
-use Rattle.net_lists.specs.Lists.{StandFrom}
 use Rattle.net_lists.specs.Runs.{ChannelNets}
-use Rattle.element_rows.specs.Rows.{Follows}
 use Rattle.flat_design.specs.declared.element.Element.{Element}
 use Rattle.flat_design.specs.declared.element.Flat.{Flat}
-use Rattle.buffer_stage.specs.declared.laid.Wire.{Wire}
 use Rattle.buffer_stage.specs.declared.laid.Laid.{Laid}
-use Rattle.buffer_stage.specs.Passes.{input_count, output_count, no_wire, wire_at, ready_at, register_nets, first_ready}
+use Rattle.buffer_stage.specs.Passes.{input_count, output_count}
 use Rattle.channel_lower.specs.declared.lowering.Lowering.{Lowering}
-use Rattle.channel_lower.specs.Growth.{Grows, grown_stand, grown_fit, grown_back}
 use Rattle.channel_lower.specs.Lowerable.{FitsBetween, IsLowerable, widths_at, place_of}
-use Rattle.channel_lower.specs.Lowering.{element_at, part_of, laid_of, channel_at, lowered}
-use Rattle.channel_lower.specs.Numbers.{sink_at}
+use Rattle.channel_lower.specs.Lowering.{element_at, part_of, channel_at, lowered}
 use Rattle.design_flow.specs.Elements as flow
 use Rattle.design_flow.specs.RowLaws.{AreCounted, IsRow, flat_lists_are_rows}
 use Rattle.lowered_laws.specs.Standing.{IsStanding}
 use Rattle.lowered_laws.specs.Rows.{IsStandingAt, AreStanding, StandsThere}
 use Rattle.lowered_laws.specs.RowLemmas.{standing_rows_follow, standing_rows_run, standing_loads_fall}
-use Rattle.lowered_designs.specs.Backward.{still_forward, went_back}
-use Rattle.lowered_designs.specs.Before.{AreFitting, fitting_of}
-use Rattle.lowered_designs.specs.Designs.{channel_nets, AreSignalledWell, LoweredListsStand, LoweredDesignsFollowFlow, LoweredLoadsFall}
-use Rattle.lowered_designs.specs.Forward.{placed}
-use Rattle.lowered_designs.specs.Linked.{all_grow, fitting_before, same_wires, same_readies, all_linked}
+use Rattle.lowered_nets.specs.Elements.{channel_nets, HasAll, lowered_elements_have_all}
+use Rattle.lowered_designs.specs.Designs.{AreSignalledWell, LoweredListsStand, LoweredDesignsFollowFlow, LoweredLoadsFall}
 use Rattle.lowered_designs.specs.Loops.{fifo_there, fork_there}
-use Rattle.lowered_designs.specs.Parts.{channel, HasAll, stage_there, as_fifo_there, as_vr_there, map_there, scan_there, join_there}
-use Rattle.lowered_designs.specs.States as S
+use Rattle.lowered_designs.specs.Parts.{stage_there, as_fifo_there, as_vr_there, map_there, scan_there, join_there}
 
 -- ---- one part
 
@@ -72,7 +62,7 @@ same_outputs Join = refl
 in_table : (parts : List Part) (e : Element) → e.part < length parts → slice_get parts e.part ≡ Some (part_of parts e)
 in_table parts e there = slice_get-get_or parts e.part AsFifo there
 
-are_counted : (parts : List Part) (widths : List ℕ) (es : List Element) → ((k : ℕ) → k < length es → FitsBetween parts widths (element_at es k)) → AreCounted parts es
+pub are_counted : (parts : List Part) (widths : List ℕ) (es : List Element) → ((k : ℕ) → k < length es → FitsBetween parts widths (element_at es k)) → AreCounted parts es
 are_counted parts widths [] fit = tt
 are_counted parts widths (e ∷ es) fit =
     let here : FitsBetween parts widths e = fit 0 (omega arith) in
@@ -100,89 +90,20 @@ module _ (parts : List Part) (flat : Flat) (servers : ℕ) (clients : List ℕ) 
   abbrev part : ℕ → Part
   part k = part_of parts (element k)
 
-  abbrev count : ℕ
-  count = length flat.elements
-
-  abbrev place : ℕ → ℕ
-  place k = S.place parts flat servers clients k
-
   abbrev end : Lowering
   end = lowered parts flat servers clients
-
-  abbrev done : Lowering
-  done = S.returned parts flat servers clients count
 
   abbrev nets : ℕ → ChannelNets
   nets c = channel_nets end c
 
-  fitting : AreFitting (S.returned parts flat servers clients (length flat.elements)).netlist
-  fitting = fitting_before parts flat servers clients count (fitting_of end.netlist kept)
-
-  grows : Grows done.netlist end.netlist
-  grows = all_grow parts flat servers clients count
-
-  module _ (k : ℕ) (lt : k < length flat.elements) where
-    abbrev laid : Laid
-    laid = laid_of done.row k
-
-    sink_at_place : (j : ℕ) → j < length (element k).sinks → channel_at (element k).sinks j ≡ place k + j
-    sink_at_place j inner = sink_at servers flat.elements k j (placed parts flat servers clients lowerable fitting k lt) inner
-
-    input_nets : (j : ℕ) → j < input_count (part k)
-        → nets (channel_at (element k).sources j) ≡ channel (wire_at laid.inputs j).valid (wire_at laid.inputs j).word (first_ready (part k) laid.readies laid.backward + j)
-    input_nets j inner =
-        let c : ℕ = channel_at (element k).sources j in
-        let takes = (lowerable.fit k lt).takes in
-        let went = still_forward parts flat servers clients lowerable fitting count (omega arith) k lt in
-        let back = went_back parts flat servers clients lowerable fitting count (omega arith) k lt (omega arith) in
-        let taken : wire_at laid.inputs j ≡ wire_at done.wires c =
-        ap (λ (ws : List Wire). wire_at ws j) went.inputs ∙ get_or-map (wire_at done.wires) (element k).sources j 0 no_wire (omega (arith, inner, takes)) in
-        let wire : wire_at end.wires c ≡ wire_at laid.inputs j = ap (λ (ws : List Wire). wire_at ws c) (same_wires parts flat servers clients count) ∙ sym taken in
-        let ready : ready_at end.readies c ≡ first_ready (part k) laid.readies laid.backward + j = ap (λ (rs : List ℕ). ready_at rs c) (same_readies parts flat servers clients count) ∙ back.ins j inner in
-        ap (λ (w : Wire). channel w.valid w.word (ready_at end.readies c)) wire ∙ ap (λ n. channel (wire_at laid.inputs j).valid (wire_at laid.inputs j).word n) ready
-
-    output_nets : (j : ℕ) → j < output_count (part k) → nets (place k + j) ≡ channel (laid.output.valid + 2 * j) laid.output.word (ready_at laid.readies j)
-    output_nets j inner =
-        let c : ℕ = place k + j in
-        let makes = (lowerable.fit k lt).makes in
-        let inside : j < length (element k).sinks = omega (arith, inner, makes) in
-        let went = still_forward parts flat servers clients lowerable fitting count (omega arith) k lt in
-        let back = went_back parts flat servers clients lowerable fitting count (omega arith) k lt (omega arith) in
-        let made : Wire = record { valid = laid.output.valid + 2 * j; word = laid.output.word } in
-        let wire : wire_at end.wires c ≡ made = ap (λ (ws : List Wire). wire_at ws c) (same_wires parts flat servers clients count) ∙ went.outs j inner in
-        let given : ready_at laid.readies j ≡ ready_at done.readies c =
-        ap (λ (rs : List ℕ). ready_at rs j) back.given ∙ get_or-map (ready_at done.readies) (element k).sinks j 0 0 inside ∙ ap (λ d. ready_at done.readies d) (sink_at_place j inside) in
-        let ready : ready_at end.readies c ≡ ready_at laid.readies j = ap (λ (rs : List ℕ). ready_at rs c) (same_readies parts flat servers clients count) ∙ sym given in
-        ap (λ (w : Wire). channel w.valid w.word (ready_at end.readies c)) wire ∙ ap (λ n. channel (laid.output.valid + 2 * j) laid.output.word n) ready
-
-    has_all : HasAll end.netlist (part k) laid (widths_at flat.widths (element k).sources) (λ j. nets (channel_at (element k).sources j)) (λ j. nets (place k + j))
-    has_all =
-        let p = S.returned_so_far parts flat servers clients lowerable fitting count (omega arith) in
-        let fit = lowerable.fit k lt in
-        let forward = p.gone_forward k lt in
-        let backward = p.gone_back k lt (omega arith) in
-        let went = still_forward parts flat servers clients lowerable fitting count (omega arith) k lt in
-        let back = went_back parts flat servers clients lowerable fitting count (omega arith) k lt (omega arith) in
-        record {
-          kept = kept;
-          good = fit.good;
-          width = fit.width;
-          gives = fit.gives;
-          registers = grown_stand done.netlist end.netlist grows _ _ (subst (λ r. StandFrom done.netlist.nets r (register_nets (part k))) (sym forward.same) (p.registers k lt).stand);
-          forward = grown_stand done.netlist end.netlist grows _ _ went.nets;
-          backward = grown_stand done.netlist end.netlist grows _ _ back.nets;
-          linked = all_linked parts flat servers clients lowerable fitting count (omega arith) k lt;
-          fit = grown_fit done.netlist end.netlist grows (part k) laid.inputs (widths_at flat.widths (element k).sources) forward.fit;
-          back = grown_back done.netlist end.netlist grows (part k) laid.readies backward.back;
-          output = forward.output;
-          ins = input_nets;
-          outs = output_nets;
-        }
-
-    stands_at : IsStandingAt end.netlist (slice_get parts (element k).part) (λ j. nets (channel_at (element k).sources j)) (λ j. nets (place k + j))
-    stands_at =
-        subst (λ (o : Option Part). IsStandingAt end.netlist o (λ j. nets (channel_at (element k).sources j)) (λ j. nets (place k + j))) (sym (in_table parts (element k) (lowerable.fit k lt).there))
-        (stands end.netlist (part k) laid (widths_at flat.widths (element k).sources) (λ j. nets (channel_at (element k).sources j)) (λ j. nets (place k + j)) has_all)
+  stands_at : (k : ℕ) → k < length flat.elements
+      → IsStandingAt end.netlist (slice_get parts (element k).part) (λ j. nets (channel_at (element k).sources j)) (λ j. nets (place_of servers flat.elements k + j))
+  stands_at k lt =
+      let inputs : ℕ → ChannelNets = λ j. nets (channel_at (element k).sources j) in
+      let outputs : ℕ → ChannelNets = λ j. nets (place_of servers flat.elements k + j) in
+      let all = lowered_elements_have_all parts flat servers clients lowerable kept k lt in
+      subst (λ (o : Option Part). IsStandingAt end.netlist o inputs outputs) (sym (in_table parts (element k) (lowerable.fit k lt).there))
+      (stands end.netlist (part k) all.0 (widths_at flat.widths (element k).sources) inputs outputs all.1)
 
   counts : AreCounted parts flat.elements
   counts = are_counted parts flat.widths flat.elements lowerable.fit

@@ -1,7 +1,11 @@
 //! The laws of lowered netlists.
+ghost use Rattle.lowered_designs.specs.Cycles.{LoweredListsRun};
 ghost use Rattle.lowered_designs.specs.Pipe.{PipesStand};
+ghost use Rattle.lowered_designs.specs.Planned.{PlannedDesignsAreReady};
 ghost use Rattle.lowered_designs.specs.Designs.{LoweredListsStand, LoweredDesignsFollowFlow, LoweredLoadsFall};
 ghost use Rattle.lowered_designs.specs.Signals.{FittingListsAreSignalledWell};
+
+use flat_design::flat_law;
 
 /// In the netlist of a pipe of one stage of octets, as the table of lowering gives it by hand, the flat list of that one stage stands
 /// between its two channels.
@@ -32,3 +36,19 @@ pub fn lowered_loads_fall()
 pub fn fitting_lists_are_signalled_well()
     ensures { FittingListsAreSignalledWell }
 {}
+
+/// In cycles of any kind that have the words of all nets, such a flat list runs as a row of elements. Where no element is a join nothing is
+/// missing: after as many cycles with all to-client channels ready and nothing joining the lines as the load was before them, what was
+/// transferred on each channel is the whole stream of what was transferred on the to-server channels.
+pub fn lowered_lists_run<C>()
+    ensures { LoweredListsRun C }
+{}
+
+/// What `flat_design` lays out of good plans, over good parts that fit the widths and the signalling of their channels, can be lowered, and
+/// its channels are signalled well, where the words of the given channels are of widths that there are and no channel with FIFO signalling
+/// is handed out.
+pub fn planned_designs_are_ready()
+    ensures { PlannedDesignsAreReady }
+{
+    flat_law();
+}

@@ -1,6 +1,6 @@
 -- The passes of lowering, turn by turn, and how far each turn gets, where all nets fit in the end.
-use Rattle.std.specs.Prelude.{◌≡◌, ℕ, zero, suc, ◌+◌, ◌-◌, ◌<◌, ◌≤◌, ◌∷◌, [], List, length, get_or, refl}
-use Rattle.std.proofs.Common.{sym, ◌∙◌, ap, subst, arith, add-one}
+use Rattle.std.specs.Prelude.{◌≡◌, ℕ, zero, suc, ◌+◌, ◌≤◌, ◌∷◌, [], List, length, get_or, refl}
+use Rattle.std.proofs.Common.{subst, arith, add-one}
 use Rattle.std.proofs.lemmas.Bool.{false≢true}
 use Rattle.std.proofs.lemmas.List.{length-replicate}
 use Rattle.netlist.specs.declared.net.Net.TheVariants.{Input}
@@ -11,10 +11,10 @@ use Rattle.flat_design.specs.declared.element.Flat.{Flat}
 use Rattle.buffer_stage.specs.Passes.{register_nets, forward_nets, backward_nets}
 use Rattle.channel_lower.specs.declared.lowering.Lowering.{Lowering}
 use Rattle.channel_lower.specs.Lowerable.{IsLowerable, place_of}
-use Rattle.channel_lower.specs.Lowering.{element_at, part_of, laid_of, channel_at, wires_at, readies_at, from_end, server_turn, client_turn, register_turn, forward_turn, backward_turn, next_turn, nothing, server_pass, client_pass, register_pass, forward_pass, backward_pass, next_pass}
+use Rattle.channel_lower.specs.Lowering.{element_at, part_of, laid_of, channel_at, wires_at, readies_at, from_end, server_turn, client_turn, register_turn, forward_turn, backward_turn, nothing, server_pass, client_pass, register_pass, forward_pass, backward_pass, next_pass}
 use Rattle.channel_lower.specs.Progress.{Progress}
 use Rattle.channel_lower.specs.Steps.{server_step, client_step, handed_below, register_step, forward_step, backward_step}
-use Rattle.lowered_designs.specs.Before.{Before, before_on, turns_before, AreFitting, IsUnlinked, unlinked_behind, nothing_unlinked, plan_before}
+use Rattle.lowered_nets.specs.Before.{Before, before_on, turns_before, AreFitting, IsUnlinked, unlinked_behind, nothing_unlinked, plan_before}
 
 module _ (parts : List Part) (flat : Flat) (servers : ℕ) (clients : List ℕ) where
   abbrev pub element : ℕ → Element

@@ -1,5 +1,5 @@
 -- What each element has once its next nets stand.
-use Rattle.std.specs.Prelude.{◌≡◌, ℕ, zero, suc, ◌+◌, ◌<◌, ◌≤◌, List, [], ◌∷◌, length, get_or, refl}
+use Rattle.std.specs.Prelude.{◌≡◌, ℕ, zero, suc, ◌+◌, ◌<◌, ◌≤◌, List, length, get_or, refl}
 use Rattle.std.proofs.Common.{sym, ◌∙◌, ap, subst, arith, inl, inr}
 use Rattle.std.proofs.lemmas.Bool.{cases_lt}
 use Rattle.netlist.specs.declared.limits.TheConstants.{MAX_NETS}
@@ -15,12 +15,12 @@ use Rattle.channel_lower.specs.declared.lowering.Lowering.{Lowering}
 use Rattle.channel_lower.specs.Growth.{Grows, grows_same, grows_on, linked_up_nets, linked_up_widths, grown_stand}
 use Rattle.channel_lower.specs.Lowerable.{IsLowerable}
 use Rattle.channel_lower.specs.Lowering.{element_at, part_of, laid_of}
-use Rattle.channel_lower.specs.Owed.{IsOf, next_kept}
+use Rattle.channel_lower.specs.Owed.{next_kept}
 use Rattle.channel_lower.specs.Steps.{behind, counted_nexts}
-use Rattle.lowered_designs.specs.Apart.{registers_below, registers_apart}
-use Rattle.lowered_designs.specs.Before.{AreFitting, fitting_front, grows_all}
-use Rattle.lowered_designs.specs.Nexts.{HasNexts, linked_count, own_nexts, other_nexts, same_nexts}
-use Rattle.lowered_designs.specs.States as S
+use Rattle.lowered_nets.specs.Apart.{registers_below, registers_apart}
+use Rattle.lowered_nets.specs.Before.{AreFitting, fitting_front, grows_all}
+use Rattle.lowered_nets.specs.Nexts.{HasNexts, linked_count, own_nexts, other_nexts, same_nexts}
+use Rattle.lowered_nets.specs.States as S
 
 pub record IsLinked (plan : Plan) (part : Part) (laid : Laid) : Type 0 where
   pub at : ℕ

@@ -1,6 +1,6 @@
 -- What each element has once it has gone forward: its inputs are the wires of its sources, its forward nets stand, and the channels that it makes
 -- have its wires.
-use Rattle.std.specs.Prelude.{◌≡◌, ℕ, zero, suc, ◌+◌, ◌*◌, ◌<◌, ◌≤◌, ◌++◌, List, [], ◌∷◌, length, get_or, map, refl}
+use Rattle.std.specs.Prelude.{◌≡◌, ℕ, zero, suc, ◌+◌, ◌*◌, ◌<◌, ◌≤◌, ◌++◌, List, [], ◌∷◌, length, get_or, refl}
 use Rattle.std.proofs.Common.{sym, ◌∙◌, ap, subst, arith, inl, inr}
 use Rattle.std.proofs.lemmas.Bool.{cases_lt}
 use Rattle.std.proofs.lemmas.List.{get_or_append_left, get_or-append-add}
@@ -18,8 +18,8 @@ use Rattle.channel_lower.specs.Lowerable.{IsLowerable}
 use Rattle.channel_lower.specs.Lowering.{element_at, part_of, laid_of, channel_at, wires_at}
 use Rattle.channel_lower.specs.Numbers.{IsPlaced, numbered_at, place_rises, source_below}
 use Rattle.channel_lower.specs.Steps.{wires-at, behind}
-use Rattle.lowered_designs.specs.Before.{AreFitting, grows_all}
-use Rattle.lowered_designs.specs.States as S
+use Rattle.lowered_nets.specs.Before.{AreFitting, grows_all}
+use Rattle.lowered_nets.specs.States as S
 
 pub record WentForward (plan : Plan) (wires : List Wire) (part : Part) (laid : Laid) (place : ℕ) (sources : List ℕ) : Type 0 where
   pub inputs : laid.inputs ≡ wires_at wires sources

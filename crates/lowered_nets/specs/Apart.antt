@@ -1,6 +1,6 @@
 -- The registers of elements are apart.
 use Rattle.std.specs.Prelude.{◌≡◌, ℕ, zero, suc, ◌+◌, ◌<◌, ◌≤◌, ◌++◌, List, [], ◌∷◌, length, get_or, refl}
-use Rattle.std.proofs.Common.{sym, ◌∙◌, ap, subst, arith, inl, inr}
+use Rattle.std.proofs.Common.{◌∙◌, ap, subst, arith, inl, inr}
 use Rattle.std.proofs.lemmas.Bool.{cases_lt}
 use Rattle.std.proofs.lemmas.List.{get_or_append_left, get_or-append-add}
 use Rattle.netlist.specs.declared.part.Part.{Part}
@@ -11,8 +11,8 @@ use Rattle.buffer_stage.specs.Passes.{register_nets}
 use Rattle.channel_lower.specs.declared.lowering.Lowering.{Lowering}
 use Rattle.channel_lower.specs.Lowerable.{IsLowerable}
 use Rattle.channel_lower.specs.Lowering.{element_at, part_of}
-use Rattle.lowered_designs.specs.Before.{AreFitting, grows_before}
-use Rattle.lowered_designs.specs.States as S
+use Rattle.lowered_nets.specs.Before.{AreFitting, grows_before}
+use Rattle.lowered_nets.specs.States as S
 
 module _ (parts : List Part) (flat : Flat) (servers : ℕ) (clients : List ℕ) (lowerable : IsLowerable parts flat servers clients) (fitting : AreFitting (S.returned parts flat servers clients (length flat.elements)).netlist) where
   abbrev element : ℕ → Element

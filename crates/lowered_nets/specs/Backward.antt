@@ -1,6 +1,6 @@
 -- What each element has once it has gone back: the ready nets of the channels that it makes, its backward nets, and the channels that it takes have
 -- its ready nets.
-use Rattle.std.specs.Prelude.{◌≡◌, ℕ, zero, suc, ◌+◌, ◌-◌, ◌*◌, ◌<◌, ◌≤◌, List, [], ◌∷◌, length, get_or, map, refl}
+use Rattle.std.specs.Prelude.{◌≡◌, ℕ, zero, suc, ◌+◌, ◌<◌, ◌≤◌, List, [], ◌∷◌, length, refl}
 use Rattle.std.specs.List.{slice_set}
 use Rattle.std.proofs.Common.{sym, ◌∙◌, ap, subst, arith, inl, inr}
 use Rattle.std.proofs.lemmas.Bool.{cases_lt, cases_eq}
@@ -20,10 +20,10 @@ use Rattle.channel_lower.specs.Lowerable.{IsLowerable}
 use Rattle.channel_lower.specs.Lowering.{turns, element_at, part_of, laid_of, channel_at, readies_at, ready_turn, with_readies}
 use Rattle.channel_lower.specs.Numbers.{place_rises, place_end, sink_at, source_below}
 use Rattle.channel_lower.specs.Steps.{nets_from-at, behind}
-use Rattle.lowered_designs.specs.Before.{AreFitting, grows_all}
-use Rattle.lowered_designs.specs.Forward.{WentForward, placed, went_forward}
-use Rattle.lowered_designs.specs.States as S
-use Rattle.lowered_designs.specs.Uses.{taken_once, taken_by_one}
+use Rattle.lowered_nets.specs.Before.{AreFitting, grows_all}
+use Rattle.lowered_nets.specs.Forward.{WentForward, placed, went_forward}
+use Rattle.lowered_nets.specs.States as S
+use Rattle.lowered_nets.specs.Uses.{taken_once, taken_by_one}
 
 pub record WentBack (plan : Plan) (readies : List ℕ) (part : Part) (laid : Laid) (element : Element) : Type 0 where
   pub given : laid.readies ≡ readies_at readies element.sinks

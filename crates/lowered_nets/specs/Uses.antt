@@ -1,11 +1,11 @@
 -- No channel of a good flat list is taken twice.
-use Rattle.std.specs.Prelude.{◌≡◌, ℕ, zero, suc, ◌+◌, ◌<◌, ◌≤◌, ◌==◌, if◌then◌else◌, List, [], ◌∷◌, length, get_or, flat_map, refl}
-use Rattle.std.proofs.Common.{sym, ◌∙◌, ap, arith, inl, inr}
-use Rattle.std.proofs.lemmas.Bool.{cases_lt, cases_eq, ne_eqb}
+use Rattle.std.specs.Prelude.{◌≡◌, ℕ, zero, suc, ◌+◌, ◌<◌, ◌≤◌, if◌then◌else◌, List, [], ◌∷◌, length, get_or, flat_map, refl}
+use Rattle.std.proofs.Common.{ap, arith, inl, inr}
+use Rattle.std.proofs.lemmas.Bool.{cases_eq, ne_eqb}
 use Rattle.flat_design.specs.declared.element.Element.{Element}
 use Rattle.flat_design.specs.declared.element.Flat.{Flat}
 use Rattle.flat_design.specs.Laying.{count_up}
-use Rattle.flat_design.specs.FlatLaws.{total, sources_in, IsFlatDesign, used_in}
+use Rattle.flat_design.specs.FlatLaws.{total, sources_in, IsFlatDesign}
 use Rattle.channel_lower.specs.Lowering.{element_at, channel_at}
 use Rattle.channel_lower.specs.Numbers.{one_at, one_here, total_at, total_append}
 

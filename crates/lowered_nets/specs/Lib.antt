@@ -1,0 +1,9 @@
+pub mod Apart
+pub mod Backward
+pub mod Before
+pub mod Elements
+pub mod Forward
+pub mod Linked
+pub mod Nexts
+pub mod States
+pub mod Uses
