@@ -1,17 +1,19 @@
 -- One channel's ring, and one channel's part of the journal, at a change of any channel.
-use Rattle.std.proofs.Common.{◌≡◌, ◌≢◌, ℕ, zero, suc, ◌+◌, ◌<◌, inl, inr, true, false, eqb, cond, Some, None, List, [], ◌∷◌, ◌++◌, length, map, drop, replicate, slice_get, refl, sym, ap, ◌∙◌, arith}
+use Rattle.std.proofs.Common.{◌≡◌, ◌≢◌, ℕ, zero, suc, ◌+◌, ◌<◌, ◌==◌, ◌||◌, inl, inr, Bool, true, false, eqb, cond, Some, None, List, [], ◌∷◌, ◌++◌, length, map, drop, replicate, slice_get, refl, sym, ap, ◌∙◌, arith}
 use Rattle.std.proofs.lemmas.List.{append-nil, get_or-set_same, get_or-set_other, get_or_past, length-set}
 use Rattle.std.proofs.lemmas.Bool.{cases_lt, eq-eqb, ne_eqb}
 use Rattle.std.proofs.lemmas.Bool.Decides.{eqb_tells}
-use Rattle.endpoint_hub.specs.declared.journal.Taken.{Taken}
+use Rattle.endpoint_hub.specs.declared.journal.Attachment.{Attachment}
 use Rattle.endpoint_hub.specs.declared.journal.Handed.{Handed}
+use Rattle.endpoint_hub.specs.declared.journal.Taken.{Taken}
 use Rattle.cycle_rules.specs.OrderLemmas.{map-append'}
 use Rattle.cycle_rules.specs.Puts.{words_on}
 use Rattle.cycle_rules.specs.PutsLemmas.{words_on-append}
 use Rattle.cycle_rules.specs.Rings.{ring_at, front_of, rings_with, rings_without_front}
 use Rattle.cycle_rules.specs.declared.transfer.Transfer.{Transfer}
 use Rattle.endpoint_hub.specs.Entries.{transfer_of, words_noted}
-use Rattle.endpoint_hub.specs.Runs.{only, times_handed}
+use Rattle.endpoint_hub.specs.Holdings.{is_noted}
+use Rattle.endpoint_hub.specs.Runs.{only, times_attached, times_handed}
 use Rattle.esi_base.specs.declared.word.Word.{Word}
 
 -- at the channel itself, `only` is the word
@@ -74,6 +76,20 @@ length-only c d w = elim (eqb d c) as (λ b. length (cond b (w ∷ []) []) ≡ c
 pub times_handed-push : (c : ℕ) (xs : List Handed) (x : Handed) (w : Word) → times_handed c (xs ++ x ∷ []) ≡ times_handed c xs + length (only c x.channel w)
 times_handed-push c [] x w = rw (length-only c x.channel w) (omega arith)
 times_handed-push c (y ∷ xs) x w = omega (arith, times_handed-push c xs x w)
+
+-- a channel that no entry names was attached no times
+count_more : (b : Bool) (n : ℕ) (p : Bool) → (b || p) ≡ false → (p ≡ false → n ≡ 0) → cond b 1 0 + n ≡ 0
+count_more true n p e rest = cc
+count_more false n p e rest = let none = rest e in omega arith
+
+pub never_attached : (c : ℕ) (xs : List Attachment) → is_noted xs c ≡ false → times_attached c xs ≡ 0
+never_attached c [] e = refl
+never_attached c (x ∷ xs) e = count_more (x.channel == c) (times_attached c xs) (is_noted xs c) e (never_attached c xs)
+
+-- a stream attached last is one more of its channel's
+pub times_attached-push : (c : ℕ) (xs : List Attachment) (x : Attachment) → times_attached c (xs ++ x ∷ []) ≡ times_attached c xs + cond (eqb x.channel c) 1 0
+times_attached-push c [] x = omega arith
+times_attached-push c (y ∷ xs) x = omega (arith, times_attached-push c xs x)
 
 -- a ring with a front is not empty
 pub front_stands : (rings : List (List Word)) (d : ℕ) (w : Word) → front_of rings d ≡ Some w → 0 < length (ring_at rings d)

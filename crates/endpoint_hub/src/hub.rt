@@ -1,10 +1,11 @@
 //! The rings of all channels and the journal.
-ghost use Rattle.std.specs.Prelude.{◌≡◌, ◌↔◌, ◌+◌, ◌-◌, ◌^◌, ◌<◌, ◌≤◌, [], length, replicate, IfOk, OnOk, OnErr, IsErrOf, OnSome, IfNone};
+ghost use Rattle.std.specs.Prelude.{◌≡◌, ◌↔◌, ◌+◌, ◌-◌, ◌^◌, ◌<◌, ◌≤◌, [], false, length, replicate, slice_index_or, IfOk, IsTrue, OnOk, OnErr, IsErrOf, OnSome, IfNone};
 ghost use Rattle.cycle_rules.specs.Rings.{has_room, ring_at, front_of};
+ghost use Rattle.endpoint_hub.specs.declared.hub.AttachStop.TheVariants.{NoMemory as attach_no_memory};
 ghost use Rattle.endpoint_hub.specs.declared.hub.PutStop.TheVariants.{NoMemory as put_no_memory};
-ghost use Rattle.endpoint_hub.specs.Holdings.{IsNew, Takes, Pops, Pushes, Hands, BeginsCycle};
+ghost use Rattle.endpoint_hub.specs.Holdings.{IsNew, Takes, Pops, Pushes, Hands, Attaches, Closes, BeginsCycle, is_noted, was_attached};
 
-use crate::journal::{Handed, Journal, Taken};
+use crate::journal::{Attachment, Handed, Journal, Taken};
 use crate::limits::SIDE_CHANNELS;
 use crate::ring::Ring;
 use cycle_rules::{RING_VALUES, SESSION_VALUES};
@@ -31,27 +32,46 @@ impl From<NoMemory> for PutStop {
     }
 }
 
+/// Why a stream was not attached.
+#[derive(Clone, Copy, Debug, PartialEq, Eq)]
+pub enum AttachStop {
+    /// A stream was attached to the channel before, in this session.
+    Attached,
+    /// Out of memory.
+    NoMemory,
+}
+
+impl From<NoMemory> for AttachStop {
+    ghost from_gives = { λ _ e. e ≡ attach_no_memory };
+
+    fn from(_error: NoMemory) -> AttachStop {
+        AttachStop::NoMemory
+    }
+}
+
 /// The rings of all channels, a side each for the values that go to the circuit and for those that
-/// come from it, and the journal. Contracts see each ring as the list of the words in it, the oldest
-/// first.
+/// come from it, whether each to-client channel has a stream, and the journal. Contracts see each ring
+/// as the list of the words in it, the oldest first.
 #[derive(Drop)]
 pub struct Hub {
     to_server: Vec<Ring>,
     to_client: Vec<Ring>,
+    /// Of each to-client channel, whether a stream was attached that has not ended.
+    has_stream: List<bool>,
     journal: Journal,
 }
 
 impl Model for Hub {
-    ghost use Rattle.std.specs.Prelude.{◌≤◌, length};
+    ghost use Rattle.std.specs.Prelude.{◌≡◌, ◌≤◌, length};
     ghost use Rattle.endpoint_hub.specs.Holdings.{Holdings};
     ghost use Rattle.cycle_rules.specs.declared.limits.TheConstants.{SESSION_VALUES};
     ghost use Rattle.endpoint_hub.specs.declared.limits.TheConstants.{SIDE_CHANNELS};
 
     ghost Value = { Holdings };
 
-    ghost view = { λ h. record { to_server = h.to_server.items; to_client = h.to_client.items; journal = h.journal } };
+    ghost view = { λ h. record { to_server = h.to_server.items; to_client = h.to_client.items; has_stream = h.has_stream; journal = h.journal } };
 
-    ghost invariant = { λ h. (length h.to_server.items ≤ SIDE_CHANNELS) × (length h.to_client.items ≤ SIDE_CHANNELS) × (length h.journal.taken ≤ SESSION_VALUES) };
+    ghost invariant = { λ h. (length h.to_server.items ≤ SIDE_CHANNELS) × (length h.to_client.items ≤ SIDE_CHANNELS) × (length h.has_stream ≡ length h.to_client.items) × (length h.journal.taken ≤ SESSION_VALUES) };
 }
 
 impl Hub {
@@ -65,6 +85,7 @@ impl Hub {
         Ok(Hub {
             to_server: empty_rings(alloc, to_server)?,
             to_client: empty_rings(alloc, to_client)?,
+            has_stream: no_streams(alloc, to_client)?,
             journal: Journal {
                 cycles: 0,
                 taken: List::new(alloc),
@@ -174,6 +195,48 @@ impl Hub {
         Ok(ring.pop())
     }
 
+    /// Attaches a stream to a to-client channel that the hub has, and notes it; refused as `Attached`
+    /// exactly where one was attached to the channel in this session, whether or not it has ended. A
+    /// refusal changes nothing. Memory is taken only where none was attached.
+    pub fn attach(&mut self, channel: u32, conn: u32, stream: u32) -> Result<(), AttachStop>
+        requires { channel < length self.old.to_client }
+        ensures attached { OnOk result (Attaches self.old self.new channel conn stream) }
+        ensures free { OnOk result (was_attached self.old.journal channel ≡ false) }
+        ensures already { IsErrOf result AttachStop.Attached ↔ IsTrue (was_attached self.old.journal channel) }
+        ensures no_memory { IsErrOf result AttachStop.NoMemory → was_attached self.old.journal channel ≡ false }
+        ensures refused { OnErr result (self.new ≡ self.old) }
+    {
+        if is_noted(self.journal.attached.as_slice(), channel) {
+            return Err(AttachStop::Attached);
+        }
+        let attachment = Attachment {
+            channel,
+            conn,
+            stream,
+        };
+        self.journal.attached.add(attachment)?;
+        let _none_before = self.has_stream.set(channel as usize, true);
+        Ok(())
+    }
+
+    /// Notes that the stream of a to-client channel that the hub has has ended. The journal keeps that it
+    /// was attached.
+    pub fn close(&mut self, channel: u32)
+        requires { channel < length self.old.to_client }
+        ensures { Closes self.old self.new channel }
+    {
+        let _before = self.has_stream.set(channel as usize, false);
+    }
+
+    /// Whether a stream was attached to a to-client channel that the hub has, and has not ended. It takes
+    /// no memory.
+    pub fn has_stream(&self, channel: u32) -> bool
+        requires { channel < length self.now.to_client }
+        ensures { result ≡ slice_index_or self.now.has_stream channel false }
+    {
+        self.has_stream.as_slice()[channel as usize]
+    }
+
     /// Ends the cycle that runs, of which fewer than 2^64 - 1 have ended.
     pub fn next_cycle(&mut self)
         requires { self.old.journal.cycles < 2 ^ 64 - 1 }
@@ -200,4 +263,24 @@ fn empty_rings(alloc: Global, count: u32) -> Result<Vec<Ring>, NoMemory>
         rings.push(Ring::new(alloc)?)?;
     }
     Ok(rings)
+}
+
+/// As many channels without a stream as are asked for.
+fn no_streams(alloc: Global, count: u32) -> Result<List<bool>, NoMemory>
+    ensures { IfOk result (λ flags. flags ≡ replicate count false) }
+{
+    let mut flags = List::new(alloc);
+    for made in 0..count {
+        flags.add(false)?;
+    }
+    Ok(flags)
+}
+
+/// Whether a stream is noted as attached to the channel.
+fn is_noted(attached: &[Attachment], channel: u32) -> bool
+    ensures { result ≡ is_noted attached.now channel }
+{
+    attached
+        .iter()
+        .any(|attachment| attachment.channel == channel)
 }

@@ -9,7 +9,7 @@ mod limits;
 mod ring;
 
 pub use cycle_rules::{RING_VALUES, SESSION_VALUES};
-pub use hub::{Hub, PutStop};
+pub use hub::{AttachStop, Hub, PutStop};
 pub use journal::{Attachment, Handed, Journal, Report, Taken};
 pub use laws::{cycle_law, new_rings_law, rings_law};
 pub use limits::SIDE_CHANNELS;

@@ -2,7 +2,7 @@
 ghost use Rattle.std.specs.Prelude.{◌≡◌, ◌<◌, length};
 
 use crate::numbers::{Numbers, number, octet};
-use endpoint_hub::{Hub, PutStop, SESSION_VALUES};
+use endpoint_hub::{AttachStop, Hub, PutStop, SESSION_VALUES};
 use esi_base::{NoMemory, Word};
 use std::alloc::{AllocError, Global};
 use std::marker::Model;
@@ -30,6 +30,16 @@ pub enum HubCall {
     Push(u32, u32),
     /// `hand CHANNEL`
     Hand(u32),
+    /// `attach CHANNEL CONN STREAM`
+    Attach {
+        channel: u32,
+        conn: u32,
+        stream: u32,
+    },
+    /// `close CHANNEL`
+    Close(u32),
+    /// `has_stream CHANNEL`
+    HasStream(u32),
     /// `next_cycle`
     NextCycle,
     /// `journal`: its cycles, and how many entries each of its lists has
@@ -38,6 +48,8 @@ pub enum HubCall {
     Taken(u32),
     /// `handed INDEX`: an entry of the journal
     Handed(u32),
+    /// `attached INDEX`: an entry of the journal
+    Attached(u32),
     /// `fill_session`: puts and pops on channel 0 until one is refused
     FillSession,
 }
@@ -57,10 +69,18 @@ impl HubCall {
             "has_room" => Some(HubCall::HasRoom(numbers.first)),
             "push" => Some(HubCall::Push(numbers.first, numbers.second)),
             "hand" => Some(HubCall::Hand(numbers.first)),
+            "attach" => Some(HubCall::Attach {
+                channel: numbers.first,
+                conn: numbers.second,
+                stream: numbers.third,
+            }),
+            "close" => Some(HubCall::Close(numbers.first)),
+            "has_stream" => Some(HubCall::HasStream(numbers.first)),
             "next_cycle" => Some(HubCall::NextCycle),
             "journal" => Some(HubCall::Journal),
             "taken" => Some(HubCall::Taken(numbers.first)),
             "handed" => Some(HubCall::Handed(numbers.first)),
+            "attached" => Some(HubCall::Attached(numbers.first)),
             "fill_session" => Some(HubCall::FillSession),
             _ => None,
         }
@@ -114,6 +134,16 @@ impl HubCase {
                 Ok(word) => word_text(alloc, word),
                 Err(NoMemory) => String::from_str(alloc, "out of memory"),
             },
+            HubCall::Attach {
+                channel,
+                conn,
+                stream,
+            } => String::from_str(alloc, self.attach(channel, conn, stream)),
+            HubCall::Close(channel) => String::from_str(alloc, self.close(channel)),
+            HubCall::HasStream(channel) => {
+                let has_stream = self.has_stream(channel);
+                format!(in alloc; "{has_stream}")
+            }
             HubCall::NextCycle => {
                 let cycle = self.next_cycle();
                 format!(in alloc; "cycle {cycle}")
@@ -121,6 +151,7 @@ impl HubCase {
             HubCall::Journal => self.journal_text(alloc),
             HubCall::Taken(index) => self.taken_text(alloc, index),
             HubCall::Handed(index) => self.handed_text(alloc, index),
+            HubCall::Attached(index) => self.attached_text(alloc, index),
             HubCall::FillSession => {
                 let count = self.fill_session();
                 format!(in alloc; "{count} taken")
@@ -179,6 +210,31 @@ impl HubCase {
         self.hub.hand(channel)
     }
 
+    #[tactic(auto, using(endpoint_hub::specs::RingLemmas::calls_of_rings))]
+    fn attach(&mut self, channel: u32, conn: u32, stream: u32) -> &'static str {
+        if channel >= CHANNELS {
+            return "no such channel";
+        }
+        match self.hub.attach(channel, conn, stream) {
+            Ok(()) => "attached",
+            Err(AttachStop::Attached) => "attached before",
+            Err(AttachStop::NoMemory) => "out of memory",
+        }
+    }
+
+    #[tactic(auto, using(endpoint_hub::specs::RingLemmas::calls_of_rings))]
+    fn close(&mut self, channel: u32) -> &'static str {
+        if channel >= CHANNELS {
+            return "no such channel";
+        }
+        self.hub.close(channel);
+        "closed"
+    }
+
+    fn has_stream(&self, channel: u32) -> bool {
+        channel < CHANNELS && self.hub.has_stream(channel)
+    }
+
     /// Ends the cycle that runs, and gives the number of the next one.
     fn next_cycle(&mut self) -> u64 {
         if self.hub.journal().cycles < u64::MAX {
@@ -215,6 +271,16 @@ impl HubCase {
         let cycle = handed.cycle;
         let channel = handed.channel;
         format!(in alloc; "cycle {cycle} channel {channel}")
+    }
+
+    fn attached_text(&self, alloc: Global, index: u32) -> Result<String, AllocError> {
+        let Some(attached) = self.hub.journal().attached.get(index as usize) else {
+            return String::from_str(alloc, "none");
+        };
+        let channel = attached.channel;
+        let conn = attached.conn;
+        let stream = attached.stream;
+        format!(in alloc; "channel {channel} conn {conn} stream {stream}")
     }
 
     /// Puts and pops on channel 0 until a value is refused, and counts those that were taken.
