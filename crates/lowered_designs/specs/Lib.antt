@@ -1,5 +1,6 @@
 pub mod Cycles
 pub mod Designs
+pub mod FifoPipe
 pub mod Loops
 pub mod Parts
 pub mod Pipe

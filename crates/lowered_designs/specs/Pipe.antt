@@ -1,11 +1,12 @@
 -- A small netlist in which a flat list stands: a pipe of one stage of octets, between a to-server and a to-client channel.
 use Rattle.std.specs.Prelude.{◌≡◌, ℕ, zero, suc, ◌+◌, ◌<◌, ◌++◌, false, List, [], ◌∷◌, Some, None, replicate, get_or, refl}
 use Rattle.std.proofs.Common.{arith}
+use Rattle.std.proofs.lemmas.List.Elements.{All-cons, All-nil}
 use Rattle.netlist.specs.declared.net.Net.{Net}
 use Rattle.netlist.specs.declared.net.Net.TheVariants.{Input, Register, Not, And, Or, Choose}
 use Rattle.netlist.specs.declared.part.Part.{Part}
 use Rattle.netlist.specs.declared.part.Part.TheVariants.{Stage}
-use Rattle.netlist.specs.Plans.{Plan, empty_plan}
+use Rattle.netlist.specs.Plans.{Plan, empty_plan, IsWidth}
 use Rattle.element_rows.specs.Flat.{sum_below, total}
 use Rattle.net_lists.specs.Lists.{StandFrom}
 use Rattle.net_lists.specs.ListLaws.{pushed_stand}
@@ -13,8 +14,11 @@ use Rattle.net_lists.specs.Runs.{ChannelNets}
 use Rattle.stage_nets.specs.declared.stage.StageNets.{StageNets}
 use Rattle.stage_nets.specs.Stage.{stage_registers, stage_ready, stage_next, HasStage}
 use Rattle.flat_design.specs.declared.element.Flat.{Flat}
+use Rattle.channel_lower.specs.Lowerable.{FitsBetween}
+use Rattle.channel_lower.specs.Lowering.{element_at, channel_at, lowered}
 use Rattle.lowered_laws.specs.Standing.{StageStands}
 use Rattle.lowered_laws.specs.Rows.{StandsThere}
+use Rattle.lowered_designs.specs.Planned.{IsReadyToRun}
 
 -- the inputs valid and word of channel 0 and ready of channel 1; V0, V1, D0, D1; R; and what the registers hold next
 abbrev ports : List Net
@@ -51,6 +55,14 @@ pipe_nets (suc c) = record { valid = 3; word = 5; ready = 2 }
 -- The stage stands there, between channel 0, which is a to-server channel, and channel 1, which is handed out. No channel has FIFO signalling.
 abbrev pub PipesStand : Type 0
 PipesStand = StandsThere pipe_netlist pipe_parts pipe_list 1 (1 ∷ []) pipe_nets (λ c. false)
+
+-- It is the netlist to which that list is lowered,
+abbrev pub PipesAreLowered : Type 0
+PipesAreLowered = (lowered pipe_parts pipe_list 1 (1 ∷ [])).netlist ≡ pipe_netlist
+
+-- and the list meets all that the laws of lowered designs ask of one.
+abbrev pub PipesAreReady : Type 0
+PipesAreReady = IsReadyToRun pipe_parts pipe_list 1 (1 ∷ [])
 
 -- ---- the law
 
@@ -95,4 +107,42 @@ pipes_do_stand = record {
   elements = (stage_stands, tt);
   signals = (λ k lt. refl, λ k lt. refl, tt);
   ends = λ c handed. refl;
+}
+
+pub pipes_are_lowered : PipesAreLowered
+pipes_are_lowered = refl
+
+only : (k : ℕ) → k < 1 → get_or pipe_list.widths (channel_at (1 ∷ []) k) 0 ≡ 8
+only zero lt = refl
+only (suc k) lt = absurd (omega arith)
+
+each_fits : (k : ℕ) → k < 1 → FitsBetween pipe_parts pipe_list.widths (element_at pipe_list.elements k)
+each_fits zero lt = record {
+  there = omega arith;
+  good = record { low = omega arith; high = omega arith };
+  takes = refl;
+  makes = refl;
+  width = 8;
+  gives = refl;
+  made = only;
+}
+each_fits (suc k) lt = absurd (omega arith)
+
+each_wide : (c : ℕ) → c < 1 → IsWidth (get_or pipe_list.widths c 0)
+each_wide zero lt = record { low = omega arith; high = omega arith }
+each_wide (suc c) lt = absurd (omega arith)
+
+pub pipes_are_ready : PipesAreReady
+pipes_are_ready = record {
+  lowerable = record {
+    design = record {
+      numbered = (refl, All-cons (λ c. c < 1) 0 [] (omega arith) (All-nil (λ c. c < 1)), refl);
+      handed = All-cons (λ c. c < 2) 1 [] (omega arith) (All-nil (λ c. c < 2));
+      once = λ f. omega arith;
+    };
+    fit = each_fits;
+    wide = each_wide;
+  };
+  is_fifo = λ c. false;
+  well = record { signals = (λ k lt. refl, λ k lt. refl, tt); ends = λ c handed. refl };
 }

@@ -1,6 +1,7 @@
 //! The laws of lowered netlists.
 ghost use Rattle.lowered_designs.specs.Cycles.{LoweredListsRun};
-ghost use Rattle.lowered_designs.specs.Pipe.{PipesStand};
+ghost use Rattle.lowered_designs.specs.FifoPipe.{FifosAreReady};
+ghost use Rattle.lowered_designs.specs.Pipe.{PipesStand, PipesAreLowered, PipesAreReady};
 ghost use Rattle.lowered_designs.specs.Planned.{PlannedDesignsAreReady};
 ghost use Rattle.lowered_designs.specs.Designs.{LoweredListsStand, LoweredDesignsFollowFlow, LoweredLoadsFall};
 ghost use Rattle.lowered_designs.specs.Signals.{FittingListsAreSignalledWell};
@@ -8,9 +9,16 @@ ghost use Rattle.lowered_designs.specs.Signals.{FittingListsAreSignalledWell};
 use flat_design::flat_law;
 
 /// In the netlist of a pipe of one stage of octets, as the table of lowering gives it by hand, the flat list of that one stage stands
-/// between its two channels.
+/// between its two channels. It is the netlist to which that list is lowered, and the list meets all that the laws here ask of one.
 pub fn pipes_stand()
-    ensures { PipesStand }
+    ensures stands { PipesStand }
+    ensures lowered { PipesAreLowered }
+    ensures ready { PipesAreReady }
+{}
+
+/// So does the flat list of a FIFO with an as_vr behind it, between which a channel has FIFO signalling.
+pub fn fifos_are_ready()
+    ensures { FifosAreReady }
 {}
 
 /// A flat list that can be lowered, and whose channels are signalled well, stands in the netlist that it is lowered to.
