@@ -2,6 +2,7 @@ pub mod Apart
 pub mod Backward
 pub mod Before
 pub mod Elements
+pub mod Ended
 pub mod Forward
 pub mod Linked
 pub mod Nexts

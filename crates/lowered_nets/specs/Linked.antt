@@ -1,6 +1,6 @@
 -- What each element has once its next nets stand.
 use Rattle.std.specs.Prelude.{◌≡◌, ℕ, zero, suc, ◌+◌, ◌<◌, ◌≤◌, List, length, get_or, refl}
-use Rattle.std.proofs.Common.{sym, ◌∙◌, ap, subst, arith, inl, inr}
+use Rattle.std.proofs.Common.{sym, ◌∙◌, ap, subst, arith, inl, inr, add-one}
 use Rattle.std.proofs.lemmas.Bool.{cases_lt}
 use Rattle.netlist.specs.declared.limits.TheConstants.{MAX_NETS}
 use Rattle.netlist.specs.declared.part.Part.{Part}
@@ -15,8 +15,10 @@ use Rattle.channel_lower.specs.declared.lowering.Lowering.{Lowering}
 use Rattle.channel_lower.specs.Growth.{Grows, grows_same, grows_on, linked_up_nets, linked_up_widths, grown_stand}
 use Rattle.channel_lower.specs.Lowerable.{IsLowerable}
 use Rattle.channel_lower.specs.Lowering.{element_at, part_of, laid_of}
-use Rattle.channel_lower.specs.Owed.{next_kept}
-use Rattle.channel_lower.specs.Steps.{behind, counted_nexts}
+use Rattle.channel_lower.specs.Owed.{Owes, next_kept, owes_linked}
+use Rattle.channel_lower.specs.Plain.{next_plain}
+use Rattle.channel_lower.specs.Progress.{Progress}
+use Rattle.channel_lower.specs.Steps.{behind, counted_nexts, progress_grown}
 use Rattle.lowered_nets.specs.Apart.{registers_below, registers_apart}
 use Rattle.lowered_nets.specs.Before.{AreFitting, fitting_front, grows_all}
 use Rattle.lowered_nets.specs.Nexts.{HasNexts, linked_count, own_nexts, other_nexts, same_nexts}
@@ -161,3 +163,18 @@ module _ (parts : List Part) (flat : Flat) (servers : ℕ) (clients : List ℕ) 
               subst (λ i. IsLinked (set_up m) (part i) (laid_of done.row i)) e
               (subst (λ (r : List Laid). IsLinked (set_up m) (part m) (laid_of r m)) (same_rows m) (own_turn m (omega (arith, le))))
         ]
+
+    -- each turn gets the whole further
+    pub finished_so_far : (m : ℕ) → m ≤ count → Progress parts flat clients (finished m) (S.place parts flat servers clients count) (length clients) count count count m
+    finished_so_far zero le = S.returned_so_far parts flat servers clients lowerable fitting count (omega arith)
+    finished_so_far (suc m) le =
+        let lt : m < count = omega (arith, le) in
+        let p = finished_so_far m (omega (arith, le)) in
+        let gone = p.gone_forward m lt in
+        let came = p.gone_back m lt (omega arith) in
+        let nets = next_nets (part m) (laid_at_turn m) (place_at_turn m) in
+        let owes : Owes (set_up m) (λ j. part j) (λ j. get_or (finished m).registers j 0) (m + 1) count =
+        owes_linked (finished m).netlist (λ j. part j) (λ j. get_or (finished m).registers j 0) m count (laid_at_turn m) (place_at_turn m) nets (next_plain (part m) (laid_at_turn m) (place_at_turn m)) (lowerable.fit m lt).good
+        gone.same came.back.count (counted_nexts (finished m).netlist nets (counted m).nexts) p.owes in
+        subst (λ i. Progress parts flat clients (finished (suc m)) (S.place parts flat servers clients count) (length clients) count count count i) (add-one m)
+        (progress_grown parts flat clients (finished m) (set_up m) (S.place parts flat servers clients count) (length clients) count count count m (m + 1) (turn_grows m) owes p)
