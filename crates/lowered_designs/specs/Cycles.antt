@@ -1,5 +1,5 @@
 -- Lowered designs in cycles of any kind that have the words of all nets, as those of a session have them beside what stands in line.
-use Rattle.std.specs.Prelude.{◌≡◌, ℕ, ◌+◌, ◌<◌, ◌≤◌, Bool, List, [], ◌∷◌, map, refl}
+use Rattle.std.specs.Prelude.{◌≡◌, ℕ, ◌+◌, ◌*◌, ◌<◌, ◌≤◌, Bool, List, [], ◌∷◌, map, refl}
 use Rattle.std.proofs.Common.{sym, ◌∙◌, ap, subst}
 use Rattle.netlist.specs.declared.part.Part.{Part}
 use Rattle.netlist.specs.Nets.{Bits}
@@ -9,9 +9,11 @@ use Rattle.element_laws.specs.Elements.{output_count, IsCycle, reset}
 use Rattle.element_rows.specs.Flat.{Placed, source, IsFlatList}
 use Rattle.element_rows.specs.Rows.{Running, places, AreRunning}
 use Rattle.element_load.specs.Load.{AllCanTake, AreWeights, weight}
-use Rattle.element_load.specs.LoadLaws.{IsLoaded, Drains, first_load, HasArrived}
+use Rattle.element_load.specs.LoadLaws.{IsLoaded, Drains, first_load, HasArrived, greatest}
 use Rattle.element_load.specs.DrainLemmas.{all_arrive}
 use Rattle.element_load.specs.WeightLemmas.{are_weights}
+use Rattle.session_runs.specs.Runs.{Account, IsSession, all_puts, Quiet, HasSettled}
+use Rattle.session_runs.specs.RunLemmas.{sessions_do_settle}
 use Rattle.net_lists.specs.Runs.{IsNetRun}
 use Rattle.flat_design.specs.declared.element.Flat.{Flat}
 use Rattle.channel_lower.specs.declared.lowering.Lowering.{Lowering}
@@ -30,7 +32,8 @@ cycle_channels words s is_fifo c cycle = channels_of (channel_nets s) is_fifo c 
 
 -- A flat list as a row of elements, each with what it holds, that runs in every run of its netlist. Where no element is a join all arrives: after as
 -- many cycles with all to-client channels ready and nothing joining the lines as the load was before them, no value stands in line, no channel
--- offers a word, and what was transferred on each channel is the whole stream of what was transferred on the to-server channels.
+-- offers a word, and what was transferred on each channel is the whole stream of what was transferred on the to-server channels. And a session that
+-- ends with more quiet cycles than 1 + W for each value that was put misses nothing, W the greatest weight of a to-server channel.
 pub record RunsInCycles {C : Type 0} (words : C → List Bits) (parts : List Part) (flat : Flat) (servers : ℕ) (clients : List ℕ) (is_fifo : ℕ → Bool) : Type 0 where
   pub row : List (Running C)
   pub same : places row ≡ row_of parts flat
@@ -43,6 +46,13 @@ pub record RunsInCycles {C : Type 0} (words : C → List Bits) (parts : List Par
       → Drains (cycle_channels words (lowered parts flat servers clients) is_fifo) servers clients in_line left count (cycle ∷ earlier)
       → first_load (weight servers (row_of parts flat) clients) servers row in_line count (cycle ∷ earlier) ≤ count
       → HasArrived (cycle_channels words (lowered parts flat servers clients) is_fifo) servers row (in_line cycle) cycle earlier
+  pub settles : AllCanTake (row_of parts flat) → (account : Account C) (count : ℕ) (offers : List (List Bits)) (cycle : C) (earlier : List C)
+      → IsNetRun (lowered parts flat servers clients).netlist offers (map words (cycle ∷ earlier))
+      → ((c : ℕ) → c < servers → KeepsOffers (cycle_channels words (lowered parts flat servers clients) is_fifo c) (cycle ∷ earlier))
+      → IsSession (cycle_channels words (lowered parts flat servers clients) is_fifo) servers clients account (cycle ∷ earlier)
+      → Quiet account servers count (cycle ∷ earlier)
+      → (1 + greatest (weight servers (row_of parts flat) clients) servers) * all_puts account servers (cycle ∷ earlier) < count
+      → HasSettled (cycle_channels words (lowered parts flat servers clients) is_fifo) servers row clients account cycle earlier
 
 abbrev pub LoweredListsRun : Type 0 → Type 0
 LoweredListsRun C = (words : C → List Bits) (parts : List Part) (flat : Flat) (servers : ℕ) (clients : List ℕ) (is_fifo : ℕ → Bool)
@@ -104,6 +114,17 @@ module _ {C : Type 0} (words : C → List Bits) (parts : List Part) (flat : Flat
   its_runs : (offers : List (List Bits)) (history : List C) → IsNetRun end.netlist offers (map words history) → AreRunning (cycle_channels words end is_fifo) servers its_row history
   its_runs offers history run = seen_running words (channels_of (channel_nets end) is_fifo) servers as_row.row history (as_row.runs offers (map words history) run)
 
+  is_loaded : AllCanTake (row_of parts flat) → (offers : List (List Bits)) (history : List C) → IsNetRun end.netlist offers (map words history)
+      → ((c : ℕ) → c < servers → KeepsOffers (cycle_channels words end is_fifo c) history)
+      → IsLoaded (weight servers (row_of parts flat) clients) (cycle_channels words end is_fifo) servers its_row clients history
+  is_loaded can offers history run keeps = record {
+    flat = its_list;
+    can_take = subst (λ (ps : List Placed). AllCanTake ps) (sym same_places) can;
+    weights = its_weights;
+    running = its_runs offers history run;
+    keeps = keeps;
+  }
+
   pub runs_in_cycles : RunsInCycles words parts flat servers clients is_fifo
   runs_in_cycles = record {
     row = its_row;
@@ -111,14 +132,9 @@ module _ {C : Type 0} (words : C → List Bits) (parts : List Part) (flat : Flat
     list = its_list;
     runs = its_runs;
     arrives = λ can in_line left count offers cycle earlier run keeps drains enough.
-        let loaded : IsLoaded (weight servers (row_of parts flat) clients) (cycle_channels words end is_fifo) servers its_row clients (cycle ∷ earlier) = record {
-          flat = its_list;
-          can_take = subst (λ (ps : List Placed). AllCanTake ps) (sym same_places) can;
-          weights = its_weights;
-          running = its_runs offers (cycle ∷ earlier) run;
-          keeps = keeps;
-        } in
-        all_arrive (weight servers (row_of parts flat) clients) (cycle_channels words end is_fifo) servers its_row clients in_line left count cycle earlier loaded drains enough;
+        all_arrive (weight servers (row_of parts flat) clients) (cycle_channels words end is_fifo) servers its_row clients in_line left count cycle earlier (is_loaded can offers (cycle ∷ earlier) run keeps) drains enough;
+    settles = λ can account count offers cycle earlier run keeps session quiet enough.
+        sessions_do_settle (weight servers (row_of parts flat) clients) (cycle_channels words end is_fifo) servers its_row clients account count cycle earlier (is_loaded can offers (cycle ∷ earlier) run keeps) session quiet enough;
   }
 
 pub lowered_lists_do_run : {C : Type 0} → LoweredListsRun C

@@ -47,7 +47,8 @@ pub fn fitting_lists_are_signalled_well()
 
 /// In cycles of any kind that have the words of all nets, such a flat list runs as a row of elements. Where no element is a join nothing is
 /// missing: after as many cycles with all to-client channels ready and nothing joining the lines as the load was before them, what was
-/// transferred on each channel is the whole stream of what was transferred on the to-server channels.
+/// transferred on each channel is the whole stream of what was transferred on the to-server channels; and a session that ends with more
+/// quiet cycles than 1 + W for each value that was put misses nothing, W the greatest weight of a to-server channel.
 pub fn lowered_lists_run<C>()
     ensures { LoweredListsRun C }
 {}
