@@ -1,2 +1,4 @@
-pub mod Runs
 pub mod RunLemmas
+pub mod Runs
+pub mod WordLemmas
+pub mod Words
