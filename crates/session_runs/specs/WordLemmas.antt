@@ -1,6 +1,7 @@
 -- What is handed is a beginning of the stream of what is taken.
-use Rattle.std.specs.Prelude.{◌≡◌, ℕ, ◌<◌, List, [], ◌∷◌, ◌++◌, take, refl}
-use Rattle.std.proofs.Common.{sym, ◌∙◌, ap, append_assoc, append-nil}
+use Rattle.std.specs.Prelude.{◌≡◌, ℕ, zero, suc, ◌+◌, ◌<◌, ◌≤◌, List, [], ◌∷◌, ◌++◌, map, take, refl}
+use Rattle.std.specs.List.{range_with_len}
+use Rattle.std.proofs.Common.{sym, ◌∙◌, ap, arith, append_assoc, append-nil}
 use Rattle.std.proofs.lemmas.List.FromFn.{length-map-range_with_len}
 use Rattle.element_laws.specs.Signals.{Bits, transferred}
 use Rattle.element_laws.specs.Histories.{Channel, transfers, offers}
@@ -12,7 +13,7 @@ use Rattle.element_rows.specs.Rows.{Follows, places, server_lists}
 use Rattle.element_rows.specs.StreamLemmas.{prefix_trans, prefix_same, flow_grows}
 use Rattle.element_load.specs.RingLemmas.{rings_keep}
 use Rattle.element_load.specs.Rings.{IsRing}
-use Rattle.session_runs.specs.Words.{held_by, all_of, IsServed, IsHanded, HandedIsPrefix}
+use Rattle.session_runs.specs.Words.{held_by, all_of, IsServed, IsHanded, HandedIsPrefix, HandedIsWhole}
 
 joined : (all went held taken ring : List Bits) → all ≡ went ++ held → ring ≡ held ++ taken → all ++ taken ≡ went ++ ring
 joined all went held taken ring e r = ap (λ ws. ws ++ taken) e ∙ append_assoc went held taken ∙ ap (λ ws. went ++ ws) (sym r)
@@ -25,7 +26,7 @@ module _ {C : Type 0} (channel : Channel C) where
   -- ---- a to-server channel
 
   module _ (taken ring left : C → List Bits) where
-    served_ring : (history : List C) → IsServed channel taken ring left history → IsRing channel ring left history
+    pub served_ring : (history : List C) → IsServed channel taken ring left history → IsRing channel ring left history
     served_ring [] served = tt
     served_ring (cycle ∷ []) served = served.0
     served_ring (cycle ∷ old ∷ earlier) served = (served.0, record { rest = taken cycle; is = sym served.1 }, served_ring (old ∷ earlier) served.2)
@@ -73,3 +74,24 @@ handed_is_prefix channels servers row words history earlier running served chann
     } in
     prefix_trans (all_of (words.handed channel) history) (transfers (channels channel) history) (at (flow (places row) taken_lists) channel) out
     (prefix_trans (transfers (channels channel) history) (at (flow (places row) offer_lists) channel) (at (flow (places row) taken_lists) channel) follows.transfers_begin grows)
+
+-- ---- all of it
+
+same_map : (f g : ℕ → List Bits) (a n : ℕ) → ((c : ℕ) → a ≤ c → c < a + n → f c ≡ g c) → map f (range_with_len a n) ≡ map g (range_with_len a n)
+same_map f g a zero e = refl
+same_map f g a (suc n) e =
+    ap (λ ws. ws ∷ map f (range_with_len (a + 1) n)) (e a (omega arith) (omega arith))
+    ∙ ap (λ lists. g a ∷ lists) (same_map f g (a + 1) n (λ c low high. e c (omega (arith, low)) (omega (arith, high))))
+
+same_lists : (f g : ℕ → List Bits) (servers : ℕ) → ((c : ℕ) → c < servers → f c ≡ g c) → server_lists f servers ≡ server_lists g servers
+same_lists f g servers e = same_map f g 0 servers (λ c low high. e c (omega (arith, high)))
+
+pub handed_is_whole : {C : Type 0} → HandedIsWhole C
+handed_is_whole channels servers row words history served none_left channel handed none_out whole =
+    let went : (c : ℕ) → c < servers → transfers (channels c) history ≡ all_of (words.taken c) history = λ c lt.
+    sym
+    (taken_is (channels c) (words.taken c) (words.ring c) (words.left c) history (served c lt) ∙ ap (λ ws. transfers (channels c) history ++ ws) (none_left c lt) ∙ append-nil (transfers (channels c) history)) in
+    let came : transfers (channels channel) history ≡ all_of (words.handed channel) history =
+    handed_is (channels channel) (words.handed channel) (words.out channel) history handed ∙ ap (λ ws. all_of (words.handed channel) history ++ ws) none_out ∙ append-nil (all_of (words.handed channel) history) in
+    sym came ∙ whole
+    ∙ ap (λ (lists : List (List Bits)). at (flow (places row) lists) channel) (same_lists (λ d. transfers (channels d) history) (λ c. all_of (words.taken c) history) servers went)

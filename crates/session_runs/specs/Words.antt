@@ -1,7 +1,7 @@
 -- The words of a session: values are taken into rings before the to-server channels of a row, and handed out of rings behind its to-client channels.
 use Rattle.std.specs.Prelude.{◌≡◌, ℕ, ◌<◌, List, [], ◌∷◌, ◌++◌}
 use Rattle.element_laws.specs.Signals.{Bits, transferred}
-use Rattle.element_laws.specs.Histories.{Channel}
+use Rattle.element_laws.specs.Histories.{Channel, transfers}
 use Rattle.element_laws.specs.Streams.{IsPrefix}
 use Rattle.element_rows.specs.Flat.{channel_count, TakesEarlier, at, flow}
 use Rattle.element_rows.specs.Rows.{Running, places, AreRunning, server_lists}
@@ -45,3 +45,13 @@ HandedIsPrefix C = (channels : ℕ → Channel C) (servers : ℕ) (row : List (R
     → ((c : ℕ) → c < servers → IsServed (channels c) (words.taken c) (words.ring c) (words.left c) history)
     → (channel : ℕ) → channel < channel_count servers (places row) → IsHanded (channels channel) (words.handed channel) (words.out channel) history
     → IsPrefix (all_of (words.handed channel) history) (at (flow (places row) (server_lists (λ c. all_of (words.taken c) history) servers)) channel)
+
+-- And where nothing is left in the rings, and what was transferred on the channel is the whole stream of what was transferred on the to-server
+-- channels, as in a session that has settled, what was handed of it is the whole stream of the values that were taken.
+abbrev pub HandedIsWhole : Type 0 → Type 0
+HandedIsWhole C = (channels : ℕ → Channel C) (servers : ℕ) (row : List (Running C)) (words : Words C) (history : List C)
+    → ((c : ℕ) → c < servers → IsServed (channels c) (words.taken c) (words.ring c) (words.left c) history)
+    → ((c : ℕ) → c < servers → held_by (words.left c) history ≡ [])
+    → (channel : ℕ) → IsHanded (channels channel) (words.handed channel) (words.out channel) history → held_by (words.out channel) history ≡ []
+    → transfers (channels channel) history ≡ at (flow (places row) (server_lists (λ d. transfers (channels d) history) servers)) channel
+    → all_of (words.handed channel) history ≡ at (flow (places row) (server_lists (λ c. all_of (words.taken c) history) servers)) channel
