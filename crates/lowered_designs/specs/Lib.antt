@@ -5,5 +5,6 @@ pub mod Loops
 pub mod Parts
 pub mod Pipe
 pub mod Planned
+pub mod Sessions
 pub mod Signals
 pub mod Whole

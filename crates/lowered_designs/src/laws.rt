@@ -4,6 +4,7 @@ ghost use Rattle.lowered_designs.specs.FifoPipe.{FifosAreReady};
 ghost use Rattle.lowered_designs.specs.Pipe.{PipesStand, PipesAreLowered, PipesAreReady};
 ghost use Rattle.lowered_designs.specs.Planned.{PlannedDesignsAreReady};
 ghost use Rattle.lowered_designs.specs.Designs.{LoweredListsStand, LoweredDesignsFollowFlow, LoweredLoadsFall};
+ghost use Rattle.lowered_designs.specs.Sessions.{SessionsHandPrefixes, SessionsHandAll};
 ghost use Rattle.lowered_designs.specs.Signals.{FittingListsAreSignalledWell};
 
 use flat_design::flat_law;
@@ -61,3 +62,13 @@ pub fn planned_designs_are_ready()
 {
     flat_law();
 }
+
+/// In every session over that netlist, at each moment, what was handed of a channel so far is the beginning of the stream function of the
+/// flat list, of the values that were taken: values are taken into rings before the to-server channels, which offer their fronts, and handed
+/// out of rings behind the to-client channels (`begins`). Where no element is a join and the session ends with more quiet cycles than 1 + W
+/// for each value that was put, W the greatest weight of a to-server channel, what was handed of each to-client channel is all of that
+/// stream (`whole`).
+pub fn sessions_hand_prefixes<C>()
+    ensures begins { SessionsHandPrefixes C }
+    ensures whole { SessionsHandAll C }
+{}

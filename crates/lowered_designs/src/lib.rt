@@ -7,5 +7,5 @@ mod laws;
 pub use laws::{
     fifos_are_ready, fitting_lists_are_signalled_well, lowered_designs_follow_flow,
     lowered_lists_run, lowered_lists_stand, lowered_loads_fall, pipes_stand,
-    planned_designs_are_ready,
+    planned_designs_are_ready, sessions_hand_prefixes,
 };
