@@ -1,0 +1,10 @@
+pub mod Hands
+pub mod Kept
+pub mod Laws
+pub mod Ports
+pub mod Registers
+pub mod Replay
+pub mod ReplayLemmas
+pub mod Running
+pub mod RunningLemmas
+pub mod SettledWords
