@@ -1,0 +1,5 @@
+pub mod Bare
+pub mod Examples
+pub mod InputWidths
+pub mod LoweredPorts
+pub mod PassInputs
