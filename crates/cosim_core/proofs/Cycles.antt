@@ -1,5 +1,5 @@
 -- A whole cycle, of its parts.
-use Rattle.std.proofs.Common.{◌≡◌, ◌+◌, Bool, Option, Some, None, IsSomeAnd, List, ◌++◌, length, map, ◌∙◌, ap, subst}
+use Rattle.std.proofs.Common.{◌≡◌, ◌+◌, Bool, Option, Some, None, IsSomeAnd, List, ◌++◌, length, map, ◌∙◌, ap, subst, true, false, refl, sym, option_to_list, [], ◌∷◌}
 use Rattle.netlist.specs.Nets.{Bits, word_at}
 use Rattle.netlist.specs.Plans.{Plan}
 use Rattle.netlist.specs.Runs.{registers_after}
@@ -13,12 +13,22 @@ use Rattle.endpoint_hub.specs.Entries.{hand_of}
 use Rattle.endpoint_hub.specs.Holdings.{Holdings, BeginsCycle}
 use Rattle.endpoint_hub.specs.HubCycle.{machine_of}
 use Rattle.session_rules.specs.Hands.{word_out}
-use Rattle.session_rules.specs.Ports.{inputs_of, blanks_of, is_ready, word_offered, net_words, circuit_of}
-use Rattle.session_rules.specs.ReplayLemmas.{after_hands}
+use Rattle.session_rules.specs.Ports.{inputs_of, blanks_of, is_ready, word_offered, net_words, circuit_of, start_of}
+use Rattle.session_rules.specs.ReplayLemmas.{after_hands, cycle_leaves}
 use Rattle.session_rules.specs.Running.{hub_inputs, Keeps}
 use Rattle.session_rules.specs.RunningLemmas.{NotesCycle, cycle_keeps}
 use Rattle.session_rules.specs.SettledWords.{settled_is}
 use Rattle.cosim_core.specs.Cycles.{CycleDone}
+
+-- the words that come out, where there are any
+one_out : (ring : List Bits) (hand : Bool) → option_to_list (word_out ring hand) ≡ word_handed ring hand
+one_out ring true = refl
+one_out ring false = refl
+
+out_are : (rings : List (List Bits)) (hands : List Bool) → map option_to_list (zip_with word_out rings hands) ≡ zip_with word_handed rings hands
+out_are [] hands = refl
+out_are (ring ∷ rings) [] = refl
+out_are (ring ∷ rings) (hand ∷ hands) = ap (λ (l : List Bits). l ∷ map option_to_list (zip_with word_out rings hands)) (one_out ring hand) ∙ ap (λ (l : List (List Bits)). word_handed ring hand ∷ l) (out_are rings hands)
 
 -- what its parts do, one after another
 pub record CycleParts (lowered : Lowered) (hub left entered out new : Holdings) (held : List Bits) (plan : Plan) (last : Option (List Bits)) (hands : List Bool) (handed : List (Option Bits)) : Type 0 where
@@ -75,6 +85,8 @@ module _ (lowered : Lowered) (hub left entered out new : Holdings) (held : List 
         machine = machine;
         noted = noted;
         words = p.out_words ∙ ap (λ (rings : List (List Bits)). zip_with word_out rings hands) got;
+        left = ap (λ (l : List (Option Bits)). map option_to_list l) (p.out_words ∙ ap (λ (rings : List (List Bits)). zip_with word_out rings hands) got)
+            ∙ (out_are moved.to_client hands ∙ sym (cycle_leaves (circuit_of lowered) (start_of lowered) (machine_of hub held) hub.journal new.journal hands keeps.rings counted keeps.stands noted.taken noted.handed));
         streams = p.over.has_stream ∙ (p.out_stream ∙ (p.entered_stream ∙ p.left_stream));
         keeps = cycle_keeps lowered hub new held (registers_after lowered.net (Some words)) hands keeps counted machine noted;
       }

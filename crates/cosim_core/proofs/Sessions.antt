@@ -1,5 +1,5 @@
 -- What the calls of a session come to, beside their parts.
-use Rattle.std.proofs.Common.{◌≡◌, ℕ, Bool, Option, None, IsSomeAnd, Result, Ok, Err, OnOk, List, length, map, refl, sym, ◌∙◌, ap, subst}
+use Rattle.std.proofs.Common.{◌≡◌, ℕ, Bool, Option, None, option_to_list, IsSomeAnd, Result, Ok, Err, OnOk, List, length, map, refl, sym, ◌∙◌, ap, subst}
 use Rattle.std.proofs.lemmas.List.{length-map}
 use Rattle.netlist.specs.Nets.{Bits, word_at}
 use Rattle.netlist.specs.Plans.{Plan}
@@ -16,7 +16,7 @@ use Rattle.session_rules.specs.Hands.{word_out}
 use Rattle.session_rules.specs.Kept.{IsKept}
 use Rattle.session_rules.specs.Ports.{inputs_of, blank_word, circuit_of, start_of}
 use Rattle.session_rules.specs.Registers.{held_words}
-use Rattle.session_rules.specs.Replay.{replayed}
+use Rattle.session_rules.specs.Replay.{replayed, leaving}
 use Rattle.session_rules.specs.ReplayLemmas.{after_hands}
 use Rattle.session_rules.specs.Running.{Running, registers_of, machine_in, inputs_in, IsRunning, Keeps}
 use Rattle.session_rules.specs.RunningLemmas.{NotesCycle, inputs_fit}
@@ -70,6 +70,7 @@ pub record SessionCycle (old new : Running) (hands : List Bool) : Type 0 where
   pub machine : machine_in new ≡ after_hands (circuit_of old.lowered) hands (machine_in old)
   pub noted : NotesCycle old.hub.journal new.hub.journal (after_transfers (circuit_of old.lowered) (machine_in old)).to_client hands
   pub words : new.handed ≡ zip_with word_out (after_transfers (circuit_of old.lowered) (machine_in old)).to_client hands
+  pub left : map option_to_list new.handed ≡ leaving (circuit_of old.lowered) (start_of old.lowered) new.hub.journal.taken new.hub.journal.handed old.hub.journal.cycles
   pub streams : new.hub.has_stream ≡ old.hub.has_stream
   pub same : new.lowered ≡ old.lowered
   pub running : IsRunning new
@@ -83,4 +84,4 @@ pub session_cycle : (old : Running) (wiring : Wiring) (plan after : Plan) (hub n
 session_cycle old wiring plan after hub new last next handed words hands is same done =
     subst (λ (o : Running). SessionCycle o (running_with wiring after new next words) hands) is
     (subst (λ (p : Plan). SessionCycle (running_with wiring plan hub last handed) (running_with wiring p new next words) hands) (sym same)
-    (record { settled = done.settled; machine = done.machine; noted = done.noted; words = done.words; streams = done.streams; same = refl; running = done.keeps }))
+    (record { settled = done.settled; machine = done.machine; noted = done.noted; words = done.words; left = done.left; streams = done.streams; same = refl; running = done.keeps }))

@@ -1,5 +1,5 @@
 //! A session over a lowered netlist.
-ghost use Rattle.std.specs.Prelude.{◌≡◌, ◌↔◌, ◌-◌, ◌^◌, ◌<◌, Some, None, false, length, map, replicate, slice_index_or, IfOk, IsTrue, OnOk, OnErr, IsErrOf, IsSomeAnd};
+ghost use Rattle.std.specs.Prelude.{◌≡◌, ◌↔◌, ◌-◌, ◌^◌, ◌<◌, Some, None, false, length, map, option_to_list, replicate, slice_index_or, IfOk, IsTrue, OnOk, OnErr, IsErrOf, IsSomeAnd};
 ghost use Rattle.netlist.specs.Plans.{IsComplete};
 ghost use Rattle.netlist.specs.Settled.{IsSettled};
 ghost use Rattle.cycle_rules.specs.Cycle.{after_transfers};
@@ -10,7 +10,7 @@ ghost use Rattle.endpoint_hub.specs.Holdings.{IsNew, Takes, Attaches, Closes, wa
 ghost use Rattle.session_rules.specs.Hands.{word_out};
 ghost use Rattle.session_rules.specs.Ports.{port_at, port_width, blank_word, circuit_of, start_of, ArePorts, HasPorts, IsPort};
 ghost use Rattle.session_rules.specs.Registers.{held_words};
-ghost use Rattle.session_rules.specs.Replay.{replayed};
+ghost use Rattle.session_rules.specs.Replay.{leaving, replayed};
 ghost use Rattle.session_rules.specs.ReplayLemmas.{after_hands};
 ghost use Rattle.session_rules.specs.Kept.{IsKept};
 ghost use Rattle.session_rules.specs.Running.{registers_of, machine_in, inputs_in, IsRunning, Keeps};
@@ -127,6 +127,7 @@ impl Session {
         ensures machine { OnOk result (machine_in self.new ≡ after_hands (circuit_of self.old.lowered) hands.now (machine_in self.old)) }
         ensures noted { OnOk result (NotesCycle self.old.hub.journal self.new.hub.journal (after_transfers (circuit_of self.old.lowered) (machine_in self.old)).to_client hands.now) }
         ensures handed { OnOk result (self.new.handed ≡ zip_with word_out (after_transfers (circuit_of self.old.lowered) (machine_in self.old)).to_client hands.now) }
+        ensures left { OnOk result (map option_to_list self.new.handed ≡ leaving (circuit_of self.old.lowered) (start_of self.old.lowered) self.new.hub.journal.taken self.new.hub.journal.handed self.old.hub.journal.cycles) }
         ensures streams { OnOk result (self.new.hub.has_stream ≡ self.old.hub.has_stream) }
         ensures lowered { OnOk result (self.new.lowered ≡ self.old.lowered) }
         ensures running { OnOk result (IsRunning self.new) }

@@ -7,7 +7,7 @@ use Rattle.cycle_rules.specs.Rings.{rings_with}
 use Rattle.endpoint_hub.specs.Entries.{hand_of}
 use Rattle.endpoint_hub.specs.Holdings.{empty_journal, with_taken, with_attached}
 use Rattle.endpoint_hub.specs.declared.journal.Journal.{Journal}
-use Rattle.session_rules.specs.Replay.{empty_machine, StandsFor}
+use Rattle.session_rules.specs.Replay.{empty_machine, leaving, StandsFor}
 use Rattle.session_rules.specs.ReplayLemmas.{after_hands}
 
 abbrev pub NewStands : (S : Type 0) → Type 0
@@ -31,3 +31,10 @@ CyclesStand S = (circuit : Circuit S) (start : S) (machine : Machine S) (journal
     → after.cycles ≡ journal.cycles + 1 → after.taken ≡ journal.taken
     → after.handed ≡ journal.handed ++ map hand_of (transfers_from journal.cycles 0 (zip_with word_handed (after_transfers circuit machine).to_client hands))
     → StandsFor circuit start (after_hands circuit hands machine) after
+
+abbrev pub CyclesLeave : (S : Type 0) → Type 0
+CyclesLeave S = (circuit : Circuit S) (start : S) (machine : Machine S) (journal after : Journal) (hands : List Bool)
+    → HasRings circuit machine → length hands ≡ circuit.to_client_count → StandsFor circuit start machine journal
+    → after.taken ≡ journal.taken
+    → after.handed ≡ journal.handed ++ map hand_of (transfers_from journal.cycles 0 (zip_with word_handed (after_transfers circuit machine).to_client hands))
+    → leaving circuit start after.taken after.handed journal.cycles ≡ zip_with word_handed (after_transfers circuit machine).to_client hands

@@ -13,7 +13,7 @@ use Rattle.endpoint_hub.specs.Holdings.{empty_journal, with_taken, with_attached
 use Rattle.endpoint_hub.specs.declared.journal.Handed.{Handed}
 use Rattle.endpoint_hub.specs.declared.journal.Journal.{Journal}
 use Rattle.endpoint_hub.specs.declared.journal.Taken.{Taken}
-use Rattle.session_rules.specs.Replay.{each, is_taken_at, words_at, is_handed_at, hands_at, entering, handing, empty_machine, replayed, StandsFor}
+use Rattle.session_rules.specs.Replay.{each, is_taken_at, words_at, is_handed_at, hands_at, entering, handing, empty_machine, replayed, leaving, StandsFor}
 
 -- ---- lists with a place for each channel
 
@@ -200,28 +200,41 @@ pop_noted n c (word ∷ ring) true =
 abbrev all_notes : ℕ → List Handed → ℕ → List (List Bits) → List Bool → List Handed
 all_notes n front c rings hands = front ++ noted n c rings hands
 
-pops_noted : (n c : ℕ) (front : List Handed) (rings : List (List Bits)) (hands : List Bool) (count : ℕ) → length rings ≡ count → length hands ≡ count → ((k : ℕ) → c ≤ k → hands_at n k front ≡ false)
-    → zip_with after_pop rings (each count (λ k. hands_at n (c + k) (all_notes n front c rings hands))) ≡ zip_with after_pop rings hands
-pops_noted n c front [] hands count e f none = refl
-pops_noted n c front (ring ∷ rings) [] count e f none = absurd (omega (arith, e, f))
-pops_noted n c front (ring ∷ rings) (hand ∷ hands) zero e f none = absurd (omega (arith, e))
-pops_noted n c front (ring ∷ rings) (hand ∷ hands) (suc count) e f none =
-    let here : List Handed = notes n c (word_handed ring hand) in
-    let others : List Handed = noted n (c + 1) rings hands in
-    let all : List Handed = all_notes n front c (ring ∷ rings) (hand ∷ hands) in
-    let split : all ≡ front ++ (here ++ others) = ap (λ (l : List Handed). front ++ l) (noted_first n c ring rings hand hands) in
-    let at_first : hands_at n c all ≡ hands_at n c here =
-    ap (λ (l : List Handed). hands_at n c l) split ∙ (any_joined (is_handed_at n c) front (here ++ others) ∙ (ap (λ (b : Bool). hands_at n c front || b) (any_joined (is_handed_at n c) here others)
-    ∙ or_right (hands_at n c front) (hands_at n c here) (hands_at n c others) (none c (omega arith)) (earlier_channel n c (c + 1) rings hands (omega arith)))) in
-    let head : after_pop ring (hands_at n (c + 0) all) ≡ after_pop ring hand =
-    ap (λ k. after_pop ring (hands_at n k all)) (let z : c + 0 ≡ c = omega arith in z) ∙ (ap (λ (b : Bool). after_pop ring b) at_first ∙ pop_noted n c ring hand) in
-    let none' : (k : ℕ) → c + 1 ≤ k → hands_at n k (front ++ here) ≡ false = λ k le. any_joined (is_handed_at n k) front here ∙ none_by (λ (b : Bool). b) (hands_at n k front) (hands_at n k here) (none k (omega (arith, le))) (later_channel n k c (word_handed ring hand) (omega (arith, le))) in
-    let regroup : all ≡ all_notes n (front ++ here) (c + 1) rings hands = split ∙ sym (append_assoc front here others) in
-    let shifted : each count (λ k. hands_at n (c + suc k) all) ≡ each count (λ k. hands_at n (c + 1 + k) (all_notes n (front ++ here) (c + 1) rings hands)) =
-    each_same count (λ k. hands_at n (c + suc k) all) (λ k. hands_at n (c + 1 + k) (all_notes n (front ++ here) (c + 1) rings hands))
-    (λ k. ap (λ j. hands_at n j all) (let z : c + suc k ≡ c + 1 + k = omega arith in z) ∙ ap (λ (l : List Handed). hands_at n (c + 1 + k) l) regroup) in
-    let tail = ap (λ (l : List Bool). zip_with after_pop rings l) shifted ∙ pops_noted n (c + 1) (front ++ here) rings hands count (omega (arith, e)) (omega (arith, f)) none' in
-    ap (λ (r : List Bits). r ∷ zip_with after_pop rings (each count (λ k. hands_at n (c + suc k) all))) head ∙ ap (λ (l : List (List Bits)). after_pop ring hand ∷ l) tail
+-- what f makes of rings and hands, where that is the same of an empty ring
+module _ {X : Type 0} (f : List Bits → Bool → X) (same : (n c : ℕ) (ring : List Bits) (hand : Bool) → f ring (hands_at n c (notes n c (word_handed ring hand))) ≡ f ring hand) where
+  zips_noted : (n c : ℕ) (front : List Handed) (rings : List (List Bits)) (hands : List Bool) (count : ℕ) → length rings ≡ count → length hands ≡ count → ((k : ℕ) → c ≤ k → hands_at n k front ≡ false)
+      → zip_with f rings (each count (λ k. hands_at n (c + k) (all_notes n front c rings hands))) ≡ zip_with f rings hands
+  zips_noted n c front [] hands count e g none = refl
+  zips_noted n c front (ring ∷ rings) [] count e g none = absurd (omega (arith, e, g))
+  zips_noted n c front (ring ∷ rings) (hand ∷ hands) zero e g none = absurd (omega (arith, e))
+  zips_noted n c front (ring ∷ rings) (hand ∷ hands) (suc count) e g none =
+      let here : List Handed = notes n c (word_handed ring hand) in
+      let others : List Handed = noted n (c + 1) rings hands in
+      let all : List Handed = all_notes n front c (ring ∷ rings) (hand ∷ hands) in
+      let split : all ≡ front ++ (here ++ others) = ap (λ (l : List Handed). front ++ l) (noted_first n c ring rings hand hands) in
+      let at_first : hands_at n c all ≡ hands_at n c here =
+      ap (λ (l : List Handed). hands_at n c l) split
+      ∙ (any_joined (is_handed_at n c) front (here ++ others)
+      ∙ (ap (λ (b : Bool). hands_at n c front || b) (any_joined (is_handed_at n c) here others)
+      ∙ or_right (hands_at n c front) (hands_at n c here) (hands_at n c others) (none c (omega arith)) (earlier_channel n c (c + 1) rings hands (omega arith)))) in
+      let head : f ring (hands_at n (c + 0) all) ≡ f ring hand =
+      ap (λ k. f ring (hands_at n k all)) (let z : c + 0 ≡ c = omega arith in z) ∙ (ap (λ (b : Bool). f ring b) at_first ∙ same n c ring hand) in
+      let none' : (k : ℕ) → c + 1 ≤ k → hands_at n k (front ++ here) ≡ false =
+      λ k le. any_joined (is_handed_at n k) front here
+      ∙ none_by (λ (b : Bool). b) (hands_at n k front) (hands_at n k here) (none k (omega (arith, le))) (later_channel n k c (word_handed ring hand) (omega (arith, le))) in
+      let regroup : all ≡ all_notes n (front ++ here) (c + 1) rings hands = split ∙ sym (append_assoc front here others) in
+      let shifted : each count (λ k. hands_at n (c + suc k) all) ≡ each count (λ k. hands_at n (c + 1 + k) (all_notes n (front ++ here) (c + 1) rings hands)) =
+      each_same count (λ k. hands_at n (c + suc k) all) (λ k. hands_at n (c + 1 + k) (all_notes n (front ++ here) (c + 1) rings hands))
+      (λ k. ap (λ j. hands_at n j all) (let z : c + suc k ≡ c + 1 + k = omega arith in z) ∙ ap (λ (l : List Handed). hands_at n (c + 1 + k) l) regroup) in
+      let tail = ap (λ (l : List Bool). zip_with f rings l) shifted ∙ zips_noted n (c + 1) (front ++ here) rings hands count (omega (arith, e)) (omega (arith, g)) none' in
+      ap (λ (r : X). r ∷ zip_with f rings (each count (λ k. hands_at n (c + suc k) all))) head ∙ ap (λ (l : List X). f ring hand ∷ l) tail
+
+-- and so is the word that it hands
+word_noted : (n c : ℕ) (ring : List Bits) (hand : Bool) → word_handed ring (hands_at n c (notes n c (word_handed ring hand))) ≡ word_handed ring hand
+word_noted n c ring false = refl
+word_noted n c [] true = refl
+word_noted n c (word ∷ ring) true =
+    ap (λ (b : Bool). word_handed (word ∷ ring) (b || false)) (ap (λ (b : Bool). b && (c == c)) (eq-eqb n n refl) ∙ eq-eqb c c refl)
 
 -- ---- the replay
 
@@ -299,6 +312,21 @@ module _ {S : Type 0} (circuit : Circuit S) (start : S) where
   pub attach_stands : (machine : Machine S) (journal : Journal) (channel conn stream : ℕ) → StandsFor circuit start machine journal → StandsFor circuit start machine (with_attached journal channel conn stream)
   attach_stands machine journal channel conn stream stands = record { machine_is = stands.machine_is; taken = stands.taken; handed = stands.handed }
 
+  -- the notes of a cycle change nothing before it
+  noted_machine : (machine : Machine S) (journal : Journal) (rings : List (List Bits)) (hands : List Bool) → StandsFor circuit start machine journal
+      → machine ≡ after_takes (entering circuit journal.taken journal.cycles) (replayed circuit start journal.taken (all_notes journal.cycles journal.handed 0 rings hands) journal.cycles)
+  noted_machine machine journal rings hands stands =
+      let n : ℕ = journal.cycles in
+      let h : List Handed = journal.handed in
+      stands.machine_is
+      ∙ ap (λ (m : Machine S). after_takes (entering circuit journal.taken n) m)
+      (replay_same journal.taken journal.taken h (all_notes n h 0 rings hands) n (λ m k lt. refl)
+      (λ m k lt. sym (any_joined (is_handed_at m k) h (noted n 0 rings hands) ∙ (ap (λ (b : Bool). hands_at m k h || b) (other_cycle m n k 0 rings hands (λ z. absurd (omega (arith, z, lt)))) ∙ or_none (hands_at m k h)))))
+    where
+      or_none : (b : Bool) → (b || false) ≡ b
+      or_none true = refl
+      or_none false = refl
+
   -- all transfers move, these channels hand, and the cycle is over
   pub cycle_stands : (machine : Machine S) (journal after : Journal) (hands : List Bool) → HasRings circuit machine → length hands ≡ circuit.to_client_count → StandsFor circuit start machine journal
       → after.cycles ≡ journal.cycles + 1 → after.taken ≡ journal.taken
@@ -311,16 +339,12 @@ module _ {S : Type 0} (circuit : Circuit S) (start : S) where
       let h : List Handed = journal.handed in
       let h' : List Handed = all_notes n h 0 rings hands in
       let moved_has : HasRings circuit (after_transfers circuit machine) = rings_after_transfers circuit machine has in
-      let played : replayed circuit start t h n ≡ replayed circuit start t h' n =
-      replay_same t t h h' n (λ m k lt. refl)
-      (λ m k lt. sym (any_joined (is_handed_at m k) h (noted n 0 rings hands) ∙ (ap (λ (b : Bool). hands_at m k h || b) (other_cycle m n k 0 rings hands (λ z. absurd (omega (arith, z, lt)))) ∙ or_none (hands_at m k h)))) in
-      let is : machine ≡ after_takes (entering circuit t n) (replayed circuit start t h' n) =
-      stands.machine_is ∙ ap (λ (m : Machine S). after_takes (entering circuit t n) m) played in
+      let is : machine ≡ after_takes (entering circuit t n) (replayed circuit start t h' n) = noted_machine machine journal rings hands stands in
       let moved : Machine S = after_transfers circuit machine in
-      let with_rings : List (List Bits) → Machine S = λ leaving. record { to_server = moved.to_server; state = moved.state; to_client = leaving } in
+      let with_rings : List (List Bits) → Machine S = λ ends. record { to_server = moved.to_server; state = moved.state; to_client = ends } in
       let popped : zip_with after_pop rings (each circuit.to_client_count (λ k. hands_at n k h')) ≡ zip_with after_pop rings hands =
       ap (λ (l : List Bool). zip_with after_pop rings l) (each_same circuit.to_client_count (λ k. hands_at n k h') (λ k. hands_at n (0 + k) h') (λ k. ap (λ j. hands_at n j h') (let z : k ≡ 0 + k = omega arith in z)))
-      ∙ pops_noted n 0 h rings hands circuit.to_client_count moved_has.to_client counted (λ k le. no_hands n k h stands.handed) in
+      ∙ zips_noted after_pop pop_noted n 0 h rings hands circuit.to_client_count moved_has.to_client counted (λ k le. no_hands n k h stands.handed) in
       let one : after_hands circuit hands machine ≡ replayed circuit start t h' (suc n) =
       ap with_rings (sym popped) ∙ (ap (λ (m : Machine S). let moves = after_transfers circuit m in record { to_server = moves.to_server; state = moves.state; to_client = zip_with after_pop moves.to_client (handing circuit h' n) }) is ∙ sym (replay_more t h' n)) in
       let late : AllByRecursion (λ (x : Taken). x.cycle < suc n) t = all_more (λ (x : Taken). x.cycle ≤ n) (λ (x : Taken). x.cycle < suc n) (λ x le. omega (arith, le)) t stands.taken in
@@ -338,7 +362,21 @@ module _ {S : Type 0} (circuit : Circuit S) (start : S) where
             (all_more (λ (x : Handed). x.cycle < n) (λ (x : Handed). x.cycle < after.cycles) (λ x lt. omega (arith, lt, e)) h stands.handed)
             (all_more (IsNoteFrom n 0) (λ (x : Handed). x.cycle < after.cycles) (λ x is'. let here = is'.cycle in omega (arith, here, e)) (noted n 0 rings hands) (noted_are n 0 rings hands)));
       }
-    where
-      or_none : (b : Bool) → (b || false) ≡ b
-      or_none true = refl
-      or_none false = refl
+
+  -- and the words that leave the rings in that cycle are those of the journal played again
+  pub cycle_leaves : (machine : Machine S) (journal after : Journal) (hands : List Bool) → HasRings circuit machine → length hands ≡ circuit.to_client_count → StandsFor circuit start machine journal
+      → after.taken ≡ journal.taken
+      → after.handed ≡ journal.handed ++ map hand_of (transfers_from journal.cycles 0 (zip_with word_handed (after_transfers circuit machine).to_client hands))
+      → leaving circuit start after.taken after.handed journal.cycles ≡ zip_with word_handed (after_transfers circuit machine).to_client hands
+  cycle_leaves machine journal after hands has counted stands f g =
+      let n : ℕ = journal.cycles in
+      let t : List Taken = journal.taken in
+      let rings : List (List Bits) = (after_transfers circuit machine).to_client in
+      let h : List Handed = journal.handed in
+      let h' : List Handed = all_notes n h 0 rings hands in
+      let moved_has : HasRings circuit (after_transfers circuit machine) = rings_after_transfers circuit machine has in
+      ap (λ (u : List Taken). leaving circuit start u after.handed n) f
+      ∙ (ap (λ (j : List Handed). leaving circuit start t j n) g
+      ∙ (ap (λ (m : Machine S). zip_with word_handed (after_transfers circuit m).to_client (handing circuit h' n)) (sym (noted_machine machine journal rings hands stands))
+      ∙ (ap (λ (l : List Bool). zip_with word_handed rings l) (each_same circuit.to_client_count (λ k. hands_at n k h') (λ k. hands_at n (0 + k) h') (λ k. ap (λ j. hands_at n j h') (let z : k ≡ 0 + k = omega arith in z)))
+      ∙ zips_noted word_handed word_noted n 0 h rings hands circuit.to_client_count moved_has.to_client counted (λ k le. no_hands n k h stands.handed))))

@@ -1,4 +1,4 @@
-use Rattle.std.proofs.Common.{◌≡◌, ◌<◌, ◌≤◌, ◌^◌, List, length, ap, ◌∙◌, arith}
+use Rattle.std.proofs.Common.{◌≡◌, List, length, ap, ◌∙◌, arith}
 use Rattle.netlist.specs.declared.net.Net.{Net}
 use Rattle.session_rules.specs.Registers.{register_places}
 use Rattle.cosim_core.proofs.places.places_of_registers.Goals as goal

@@ -1,4 +1,4 @@
-use Rattle.session_rules.specs.ReplayLemmas.{new_stands, take_stands, attach_stands, cycle_stands}
+use Rattle.session_rules.specs.ReplayLemmas.{new_stands, take_stands, attach_stands, cycle_stands, cycle_leaves}
 use Rattle.session_rules.proofs.laws.journals_are_replayed.Goals as goal
 
 pub returns-clause-starts : goal.returns-clause-starts
@@ -12,3 +12,6 @@ returns-clause-attaches g c = λ circuit start machine journal channel conn stre
 
 pub returns-clause-cycles : goal.returns-clause-cycles
 returns-clause-cycles g c = λ circuit start machine journal after hands has counted stands e f h. cycle_stands circuit start machine journal after hands has counted stands e f h
+
+pub returns-clause-leaves : goal.returns-clause-leaves
+returns-clause-leaves g c = λ circuit start machine journal after hands has counted stands e f. cycle_leaves circuit start machine journal after hands has counted stands e f

@@ -1,5 +1,4 @@
 use Rattle.std.proofs.Common.{◌≡◌, ◌-◌, ◌^◌, ◌<◌, length, sym, subst}
-use Rattle.channel_lower.specs.declared.lowered.Lowered.{Lowered}
 use Rattle.netlist.specs.Plans.{Plan}
 use Rattle.session_rules.specs.Kept.{IsKept}
 use Rattle.session_rules.specs.Running.{Running, IsRunning}
@@ -43,3 +42,6 @@ returns-clause-lowered c = (session_cycle c.args.self.now c.self.inside.wiring c
 
 pub returns-clause-running : goal.returns-clause-running
 returns-clause-running c = (session_cycle c.args.self.now c.self.inside.wiring c.self.inside.state.sim.plan c.advance.new.state.sim.plan c.self.inside.state.hub c.advance.new.state.hub c.self.inside.state.sim.last c.advance.new.state.sim.last c.self.inside.state.handed c.advance.new.state.handed c.args.hands.now c.self.view_is c.advance.ensures.plan c.in_ok-advance.ensures.done).running
+
+pub returns-clause-left : goal.returns-clause-left
+returns-clause-left c = (session_cycle c.args.self.now c.self.inside.wiring c.self.inside.state.sim.plan c.advance.new.state.sim.plan c.self.inside.state.hub c.advance.new.state.hub c.self.inside.state.sim.last c.advance.new.state.sim.last c.self.inside.state.handed c.advance.new.state.handed c.args.hands.now c.self.view_is c.advance.ensures.plan c.in_ok-advance.ensures.done).left

@@ -1,4 +1,4 @@
-use Rattle.std.proofs.Common.{sym, subst, ap, ◌∙◌}
+use Rattle.std.proofs.Common.{sym, subst, ap}
 use Rattle.channel_lower.specs.declared.lowered.Lowered.{Lowered}
 use Rattle.session_rules.specs.Kept.{IsKept}
 use Rattle.cosim_core.specs.Sessions.{lowered_of}

@@ -1,4 +1,4 @@
-use Rattle.std.proofs.Common.{◌≡◌, List, sym, subst, ◌∙◌, ap, map}
+use Rattle.std.proofs.Common.{◌≡◌, sym, subst, ◌∙◌, ap, map}
 use Rattle.netlist.specs.Nets.{word_at}
 use Rattle.netlist.specs.Runs.{registers_after}
 use Rattle.session_rules.specs.Ports.{circuit_of, start_of}
