@@ -1,7 +1,7 @@
 -- Readers made of readers, and the forms of their texts.
-use Rattle.std.specs.Prelude.{◌≡◌, ℕ, suc, Bool, true, List, [], ◌∷◌, ◌++◌, if◌then◌else◌, Option, Some, None, Result, Ok, Err}
+use Rattle.std.specs.Prelude.{length, zero, ◌≡◌, ℕ, suc, Bool, true, List, [], ◌∷◌, ◌++◌, if◌then◌else◌, Option, Some, None, Result, Ok, Err}
 use Rattle.ll1_grammar.specs.Lexemes.{Lexemes, first_place, rest}
-use Rattle.ll1_grammar.specs.Readers.{Read, Reader, ◌>>=◌, pure}
+use Rattle.ll1_grammar.specs.Readers.{and_then, Read, Reader, ◌>>=◌, pure}
 use Rattle.ll1_grammar.specs.declared.refusal.TokenRefusal.{TokenRefusal}
 use Rattle.reading_law.specs.Exact.{Form, head_of, token_of}
 
@@ -67,6 +67,12 @@ from_here p ts = p (first_place ts) ts
 abbrev pub each : {T D A : Type 0} → (ℕ → D → Reader T A) → ℕ → List D → Reader T (List A)
 each step n [] = pure []
 each step n (d ∷ ds) = step n d >>= λ a. each step (suc n) ds >>= λ xs. pure (a ∷ xs)
+
+-- items, each by its number, as long as one begins, and at most that many
+unfoldable pub many : {T A : Type 0} → T → (T → Bool) → (ℕ → Reader T A) → ℕ → List A → Reader T (List A)
+many end begins step zero xs ts = Ok (xs, ts)
+many end begins step (suc count) xs ts =
+    if begins (token_of end (head_of ts)) then and_then (step (length xs) ts) (λ a. many end begins step count (xs ++ a ∷ [])) else Ok (xs, ts)
 
 -- the whole text: what stands behind it is refused
 abbrev pub to_end : {T A : Type 0} → (T → ℕ) → Read T A → Result A TokenRefusal

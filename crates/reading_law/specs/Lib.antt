@@ -6,3 +6,4 @@ pub mod Judged
 pub mod WholeTexts
 pub mod Lists
 pub mod Example
+pub mod Repeated
