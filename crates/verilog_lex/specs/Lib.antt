@@ -1,0 +1,12 @@
+pub mod Octet
+pub mod Words
+pub mod Numbers
+pub mod RuleNumbers
+pub mod Tokens
+pub mod Cuts
+pub mod Steps
+pub mod CutLaw
+pub mod CutOnly
+pub mod NumberSteps
+pub mod Spelled
+pub mod SpelledLaw
