@@ -7,3 +7,4 @@ pub mod WholeTexts
 pub mod Lists
 pub mod Example
 pub mod Repeated
+pub mod Printed
