@@ -4,7 +4,6 @@ use Rattle.std.proofs.Common.{sym, subst, append_assoc}
 use Rattle.channel_types.specs.Types.{width_of}
 use Rattle.verilog_tokens.specs.declared.token.Keyword.{Keyword}
 use Rattle.verilog_tokens.specs.declared.token.Keyword.TheVariants.{Input, Output, Reg, Wire}
-use Rattle.verilog_tokens.specs.declared.token.Sign.{Sign}
 use Rattle.verilog_tokens.specs.declared.token.Sign.TheVariants.{Semicolon}
 use Rattle.verilog_tokens.specs.declared.token.PortSide.{PortSide}
 use Rattle.verilog_tokens.specs.declared.token.PortSide.TheVariants.{Server, Client}
