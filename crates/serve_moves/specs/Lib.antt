@@ -1,0 +1,7 @@
+pub mod Filled
+pub mod FilledLaws
+pub mod Growing
+pub mod Journaled
+pub mod JournaledLaws
+pub mod Quiet
+pub mod Tails
