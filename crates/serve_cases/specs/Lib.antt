@@ -1,0 +1,10 @@
+pub mod Frames
+pub mod FullRows
+pub mod Rows
+pub mod SmallReader
+pub mod SmallServer
+pub mod Stored
+pub mod StoredLaws
+pub mod StoredRule
+pub mod StoredRuleLaws
+pub mod Summaries
