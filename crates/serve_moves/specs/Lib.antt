@@ -1,5 +1,6 @@
 pub mod Filled
 pub mod FilledLaws
+pub mod FilledSessions
 pub mod Growing
 pub mod Journaled
 pub mod JournaledLaws

@@ -6,4 +6,4 @@ pub mod journal;
 pub mod takes;
 
 pub use journal::journal_law;
-pub use takes::filled_law;
+pub use takes::{filled_law, filled_sessions_law};
