@@ -3,10 +3,12 @@ ghost use Rattle.std.specs.Prelude.{◌≡◌, IfOk};
 ghost use Rattle.esi_base.specs.Answers.{AnswersAs, IfRefused};
 ghost use Rattle.channel_typing.specs.Misfits.{misfits};
 ghost use Rattle.check_rules.specs.Checks.{Accepts, checks};
+ghost use Rattle.tree_plans.specs.Trees.{planned_tree};
 ghost use Rattle.bundle_check.specs.Checking.{checked_of, tree_of};
 ghost use Rattle.bundle_check.specs.Refusals.{IsReported, IsCheckNumber};
 
 use crate::checked::Checked;
+use crate::planning::plans_of;
 use design_checks::{RuleBreak, checks_law, first_break};
 use esi_base::{Refusal, Stop};
 use esi_text::Design;
@@ -25,6 +27,9 @@ pub fn check(alloc: Global, design: Design) -> Result<Checked, Stop>
     ensures kept { IfOk result (λ checked. checked.design ≡ design) }
     ensures only { Accepts (checks misfits design.tree) → IfRefused result (λ _. ⊥) }
 
+    // It is kept with the plans of its bodies and the table of the parts that stand for its elements.
+    ensures planned { IfOk result (λ checked. checked.planned ≡ planned_tree design.tree) }
+
     // What is refused breaks the rule of that number first, and its break is reported at that place.
     ensures refused { IfRefused result (IsReported design.text design.tree) }
     ensures numbers { IfRefused result (λ refusal. IsCheckNumber refusal.number) }
@@ -32,7 +37,10 @@ pub fn check(alloc: Global, design: Design) -> Result<Checked, Stop>
     checks_law();
     first_breaks_law();
     match first_break(alloc, &design.tree)? {
-        None => Ok(Checked { design }),
+        None => {
+            let planned = plans_of(alloc, &design.tree)?;
+            Ok(Checked { design, planned })
+        }
         Some(RuleBreak { rule, at }) => {
             Err(Stop::Refused(Refusal {
                 number: rule.number(),

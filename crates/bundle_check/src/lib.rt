@@ -4,6 +4,8 @@
 
 pub mod checked;
 mod checking;
+mod kept;
+mod planning;
 
 pub use checked::Checked;
 pub use checking::check;
