@@ -1,0 +1,4 @@
+pub mod Operations
+pub mod Resolved
+pub mod Walk
+pub mod Placed
