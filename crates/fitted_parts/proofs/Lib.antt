@@ -1,0 +1,3 @@
+pub mod TypesOf
+pub mod GoodTypes
+pub mod Fitting
