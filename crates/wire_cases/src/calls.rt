@@ -1,6 +1,5 @@
 //! Messages of gRPC calls, in pieces.
 
-use crate::octets;
 use esi_base::{NoMemory, Octets, Poll};
 use grpc_calls::{DeframeStop, Deframer, prefixed};
 use std::alloc::Global;
@@ -20,7 +19,7 @@ pub fn read(alloc: Global, text: &str) -> Result<Option<String>, NoMemory> {
     let mut deframer = Deframer::new(alloc, limit);
     let mut answer = String::new(alloc);
     for (at, piece) in pieces.split("|").enumerate() {
-        let Some(octets) = octets::octets_of(alloc, piece)? else {
+        let Some(octets) = octet_texts::octets_of(alloc, piece)? else {
             return Ok(None);
         };
         if at > 0 {
@@ -43,7 +42,7 @@ pub fn feed(
     for _ in 0..u32::MAX {
         match deframer.poll_message() {
             Poll::Ready(Ok(message)) => {
-                let message = octets::digits_of(alloc, message.as_slice())?;
+                let message = octet_texts::digits_of(alloc, message.as_slice())?;
                 messages.push_str(message.as_str())?;
                 messages.push_str(", ")?;
             }
@@ -60,14 +59,14 @@ pub fn feed(
 pub fn written(alloc: Global, text: &str) -> Result<Option<String>, NoMemory> {
     let mut out = Octets::from_slice(alloc, BEFORE)?;
     for message in text.split("|") {
-        let Some(message) = octets::octets_of(alloc, message)? else {
+        let Some(message) = octet_texts::octets_of(alloc, message)? else {
             return Ok(None);
         };
         if !write(message.as_slice(), &mut out)? {
             return Ok(None);
         }
     }
-    Ok(Some(octets::digits_of(alloc, out.as_slice())?))
+    Ok(Some(octet_texts::digits_of(alloc, out.as_slice())?))
 }
 
 /// Writes a message with its prefix; whether it is short enough.

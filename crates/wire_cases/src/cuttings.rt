@@ -1,6 +1,6 @@
 //! A stream of messages at each cutting.
 
-use crate::{calls, octets};
+use crate::calls;
 use esi_base::NoMemory;
 use grpc_calls::Deframer;
 use std::alloc::Global;
@@ -17,7 +17,7 @@ pub fn read(alloc: Global, text: &str) -> Result<Option<String>, NoMemory> {
     let Ok(limit) = limit.parse::<u32>() else {
         return Ok(None);
     };
-    let Some(octets) = octets::octets_of(alloc, octets)? else {
+    let Some(octets) = octet_texts::octets_of(alloc, octets)? else {
         return Ok(None);
     };
     let octets = octets.as_slice();

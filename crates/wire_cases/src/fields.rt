@@ -1,6 +1,5 @@
 //! Fields of the Protocol Buffers encoding.
 
-use crate::octets;
 use esi_base::{NoMemory, Octets};
 use proto_wire::{WireField, WireRefusal, WireValue, read_field, write_span, write_varint};
 use std::alloc::Global;
@@ -11,7 +10,7 @@ const GREATEST: u32 = 536_870_911;
 /// The fields of octets, and where each one ends; the refusal of the first that is none. None where the
 /// text is no octets.
 pub fn read(alloc: Global, text: &str) -> Result<Option<String>, NoMemory> {
-    match octets::octets_of(alloc, text)? {
+    match octet_texts::octets_of(alloc, text)? {
         Some(octets) => Ok(Some(fields_of(alloc, octets.as_slice())?)),
         None => Ok(None),
     }
@@ -73,7 +72,7 @@ fn add_field(
 
 /// Octets of a field as text.
 fn span_of(alloc: Global, octets: &[u8]) -> Result<String, NoMemory> {
-    let octets = octets::text_of(alloc, octets)?;
+    let octets = octet_texts::text_of(alloc, octets)?;
     Ok(format!(in alloc; "octets {octets}")?)
 }
 
@@ -86,7 +85,7 @@ pub fn written(alloc: Global, text: &str) -> Result<Option<String>, NoMemory> {
             return Ok(None);
         }
     }
-    Ok(Some(octets::digits_of(alloc, out.as_slice())?))
+    Ok(Some(octet_texts::digits_of(alloc, out.as_slice())?))
 }
 
 /// Writes a varint or a field of octets; whether the text is one.
@@ -101,7 +100,7 @@ fn write_part(alloc: Global, part: &str, out: &mut Octets) -> Result<bool, NoMem
     let Ok(number) = number.trim_ascii().parse::<u32>() else {
         return Ok(false);
     };
-    let Some(octets) = octets::octets_of(alloc, value)? else {
+    let Some(octets) = octet_texts::octets_of(alloc, value)? else {
         return Ok(false);
     };
     write_octets(out, number, octets.as_slice())

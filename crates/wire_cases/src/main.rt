@@ -1,4 +1,4 @@
-//! Cases of what stands on the wire: each line of the input is a case, and is printed with its answer
+//! Cases of fields, messages and streams of messages: each line of the input is a case, and is printed with its answer
 //! behind an arrow. A line that begins with `#` is a title, and is printed as it is.
 //!
 //! README.md tells each kind of case. The answers of the table are those that the standards' examples
@@ -8,16 +8,10 @@
 mod calls;
 mod cuttings;
 mod fields;
-mod header_blocks;
-mod header_lists;
-mod huffman;
 mod message_texts;
 mod messages;
-mod octets;
 mod random;
-mod random_blocks;
 mod random_messages;
-mod table_model;
 mod written_messages;
 
 use esi_base::NoMemory;
@@ -59,11 +53,6 @@ fn answer_of(alloc: Global, line: &str) -> Result<Option<String>, NoMemory> {
         "call" => calls::read(alloc, rest),
         "call-cuttings" => cuttings::read(alloc, rest),
         "write-call" => calls::written(alloc, rest),
-        "huffman" => huffman::written(alloc, rest),
-        "huffman-code" => huffman::read(alloc, rest),
-        "huffman-words" => huffman::words(alloc),
-        "header-block" => header_blocks::read(alloc, rest),
-        "write-headers" => header_lists::written(alloc, rest),
         "random" => random::compared(alloc, rest),
         _ => Ok(None),
     }

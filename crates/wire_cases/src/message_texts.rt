@@ -1,22 +1,21 @@
 //! Messages of the calls, as text.
 
-use crate::octets;
 use cosim_msgs::{AddressedMessage, ChannelDesc, ListOfChannels, Message};
 use esi_base::NoMemory;
 use std::alloc::Global;
 
 /// A message with the channel that it is for.
 pub fn of_addressed(alloc: Global, message: &AddressedMessage) -> Result<String, NoMemory> {
-    let name = octets::text_of(alloc, message.channel_name.as_slice())?;
-    let octets = octets::digits_of(alloc, message.message.octets.as_slice())?;
+    let name = octet_texts::text_of(alloc, message.channel_name.as_slice())?;
+    let octets = octet_texts::digits_of(alloc, message.message.octets.as_slice())?;
     Ok(format!(in alloc; "channel {name}, data {octets}")?)
 }
 
 /// A channel's description.
 pub fn of_channel(alloc: Global, channel: &ChannelDesc) -> Result<String, NoMemory> {
-    let name = octets::text_of(alloc, channel.name.as_slice())?;
+    let name = octet_texts::text_of(alloc, channel.name.as_slice())?;
     let direction = channel.dir;
-    let ty = octets::text_of(alloc, channel.ty.as_slice())?;
+    let ty = octet_texts::text_of(alloc, channel.ty.as_slice())?;
     Ok(format!(in alloc; "name {name}, direction {direction}, type {ty}")?)
 }
 
@@ -34,7 +33,7 @@ pub fn of_channels(alloc: Global, list: &ListOfChannels) -> Result<String, NoMem
 
 /// The octets of one value.
 pub fn of_data(alloc: Global, message: &Message) -> Result<String, NoMemory> {
-    let octets = octets::digits_of(alloc, message.octets.as_slice())?;
+    let octets = octet_texts::digits_of(alloc, message.octets.as_slice())?;
     Ok(format!(in alloc; "data {octets}")?)
 }
 

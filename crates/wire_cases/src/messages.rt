@@ -1,6 +1,6 @@
 //! Messages of the calls, read.
 
-use crate::{fields, message_texts, octets};
+use crate::{fields, message_texts};
 use cosim_msgs::{
     AddressedMessage, ChannelDesc, CosimMessage, ListOfChannels, Message, MsgStop, VoidMessage,
 };
@@ -11,7 +11,7 @@ use std::alloc::Global;
 /// where the text names none.
 pub fn read(alloc: Global, text: &str) -> Result<Option<String>, NoMemory> {
     let (kind, rest) = text.split_once(" ").unwrap_or((text, ""));
-    match octets::octets_of(alloc, rest)? {
+    match octet_texts::octets_of(alloc, rest)? {
         Some(octets) => message_of(alloc, kind, octets.as_slice()),
         None => Ok(None),
     }

@@ -1,8 +1,8 @@
 //! Random cases: what is written is read again.
 
-use crate::{random_blocks, random_messages};
+use crate::random_messages;
 use case_words::Numbers;
-use esi_base::{NoMemory, Octets};
+use esi_base::NoMemory;
 use std::alloc::Global;
 
 /// Writes so many random cases of a kind with a seed, reads each again, and gives how many come back as
@@ -30,32 +30,7 @@ fn comes_back(alloc: Global, kind: &str, numbers: &mut Numbers) -> Result<Option
         "fields" => random_messages::fields_come_back(alloc, numbers)?,
         "messages" => random_messages::message_comes_back(alloc, numbers)?,
         "calls" => random_messages::calls_come_back(alloc, numbers)?,
-        "huffman" => random_messages::text_comes_back(alloc, numbers)?,
-        "huffman-code" => random_messages::code_comes_back(alloc, numbers)?,
-        "header-blocks" => random_blocks::blocks_come_back(alloc, numbers)?,
-        "header-lists" => random_blocks::lists_come_back(alloc, numbers)?,
         _ => return Ok(None),
     };
     Ok(Some(same))
-}
-
-/// Fewer octets than a bound, any or all of them letters.
-pub fn octets(alloc: Global, numbers: &mut Numbers, bound: u32) -> Result<Octets, NoMemory> {
-    if numbers.coin() {
-        return letters(alloc, numbers, bound);
-    }
-    let mut octets = Octets::new(alloc);
-    for _ in 0..numbers.next() % bound.max(1) {
-        octets.add((numbers.next() % 256) as u8)?;
-    }
-    Ok(octets)
-}
-
-/// Fewer letters than a bound.
-pub fn letters(alloc: Global, numbers: &mut Numbers, bound: u32) -> Result<Octets, NoMemory> {
-    let mut octets = Octets::new(alloc);
-    for _ in 0..numbers.next() % bound.max(1) {
-        octets.add((numbers.next() % 26) as u8 + b'a')?;
-    }
-    Ok(octets)
 }

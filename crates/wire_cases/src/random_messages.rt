@@ -1,10 +1,10 @@
 //! Random fields, messages, calls and texts, written and read again.
 
-use crate::{calls, fields, huffman, messages, octets, random, written_messages};
+use crate::{calls, fields, messages, written_messages};
 use case_words::Numbers;
 use esi_base::{List, NoMemory, Octets};
 use grpc_calls::Deframer;
-use hpack_huffman::{huff_decode, huff_encode};
+use octet_texts::{random_letters, random_octets};
 use proto_wire::write_varint;
 use std::alloc::Global;
 
@@ -92,9 +92,9 @@ fn add_span(
     number: u32,
     out: &mut Octets,
 ) -> Result<String, NoMemory> {
-    let octets = random::octets(alloc, numbers, 200)?;
+    let octets = random_octets(alloc, numbers, 200)?;
     fields::write_octets(out, number, octets.as_slice())?;
-    let octets = octets::text_of(alloc, octets.as_slice())?;
+    let octets = octet_texts::text_of(alloc, octets.as_slice())?;
     Ok(format!(in alloc; "octets {octets}")?)
 }
 
@@ -140,10 +140,10 @@ fn add_addressed(
     numbers: &mut Numbers,
     parts: &mut List<Octets>,
 ) -> Result<String, NoMemory> {
-    let name = random::letters(alloc, numbers, 40)?;
-    let data = random::octets(alloc, numbers, 400)?;
-    let channel = octets::text_of(alloc, name.as_slice())?;
-    let digits = octets::digits_of(alloc, data.as_slice())?;
+    let name = random_letters(alloc, numbers, 40)?;
+    let data = random_octets(alloc, numbers, 400)?;
+    let channel = octet_texts::text_of(alloc, name.as_slice())?;
+    let digits = octet_texts::digits_of(alloc, data.as_slice())?;
     parts.add(name)?;
     parts.add(data)?;
     Ok(format!(in alloc; "channel {channel}, data {digits}")?)
@@ -155,11 +155,11 @@ fn add_channel(
     numbers: &mut Numbers,
     parts: &mut List<Octets>,
 ) -> Result<String, NoMemory> {
-    let name = random::letters(alloc, numbers, 40)?;
+    let name = random_letters(alloc, numbers, 40)?;
     let direction = (numbers.next() % 2) as u8;
-    let ty = random::letters(alloc, numbers, 90)?;
-    let name_text = octets::text_of(alloc, name.as_slice())?;
-    let ty_text = octets::text_of(alloc, ty.as_slice())?;
+    let ty = random_letters(alloc, numbers, 90)?;
+    let name_text = octet_texts::text_of(alloc, name.as_slice())?;
+    let ty_text = octet_texts::text_of(alloc, ty.as_slice())?;
     parts.add(name)?;
     parts.add(Octets::from_slice(alloc, &[direction])?)?;
     parts.add(ty)?;
@@ -188,8 +188,8 @@ fn add_data(
     numbers: &mut Numbers,
     parts: &mut List<Octets>,
 ) -> Result<String, NoMemory> {
-    let data = random::octets(alloc, numbers, 400)?;
-    let digits = octets::digits_of(alloc, data.as_slice())?;
+    let data = random_octets(alloc, numbers, 400)?;
+    let digits = octet_texts::digits_of(alloc, data.as_slice())?;
     parts.add(data)?;
     Ok(format!(in alloc; "data {digits}")?)
 }
@@ -213,9 +213,9 @@ fn add_call(
     out: &mut Octets,
     due: &mut String,
 ) -> Result<(), NoMemory> {
-    let message = random::octets(alloc, numbers, 300)?;
+    let message = random_octets(alloc, numbers, 300)?;
     calls::write(message.as_slice(), out)?;
-    let digits = octets::digits_of(alloc, message.as_slice())?;
+    let digits = octet_texts::digits_of(alloc, message.as_slice())?;
     due.push_str(digits.as_str())?;
     due.push_str(", ")?;
     Ok(())
@@ -241,26 +241,4 @@ fn read_cut_anyhow(
         rest = &rest[count..];
     }
     Ok(is_pending)
-}
-
-/// Whether a random text comes back from its Huffman code.
-pub fn text_comes_back(alloc: Global, numbers: &mut Numbers) -> Result<bool, NoMemory> {
-    let text = random::octets(alloc, numbers, 200)?;
-    let mut code = Octets::new(alloc);
-    huff_encode(text.as_slice(), &mut code)?;
-    let due = octets::text_of(alloc, text.as_slice())?;
-    let read = huffman::text_of_code(alloc, code.as_slice())?;
-    Ok(read.as_str() == due.as_str())
-}
-
-/// Whether random octets, where they are the Huffman code of a text, are the code that is written for it.
-pub fn code_comes_back(alloc: Global, numbers: &mut Numbers) -> Result<bool, NoMemory> {
-    let code = random::octets(alloc, numbers, 12)?;
-    let mut text = Octets::new(alloc);
-    if huff_decode(code.as_slice(), &mut text).is_err() {
-        return Ok(text.is_empty());
-    }
-    let mut written = Octets::new(alloc);
-    huff_encode(text.as_slice(), &mut written)?;
-    Ok(written.as_slice() == code.as_slice())
 }

@@ -2,7 +2,6 @@
 ghost use Rattle.std.specs.Prelude.{IsTrue};
 ghost use Rattle.cosim_msgs.specs.Spelling.{IsWritableList};
 
-use crate::octets;
 use cosim_msgs::{
     AddressedMessage, ChannelDesc, CosimMessage, ListOfChannels, Message, VoidMessage,
 };
@@ -17,14 +16,14 @@ const BEFORE: &[u8] = b"x";
 /// names none.
 pub fn written(alloc: Global, text: &str) -> Result<Option<String>, NoMemory> {
     let (kind, rest) = text.split_once(" ").unwrap_or((text, ""));
-    let Some(items) = octets::items_of(alloc, rest)? else {
+    let Some(items) = octet_texts::items_of(alloc, rest)? else {
         return Ok(None);
     };
     let mut out = Octets::from_slice(alloc, BEFORE)?;
     if !write_kind(alloc, kind, items.as_slice(), &mut out)? {
         return Ok(None);
     }
-    Ok(Some(octets::digits_of(alloc, out.as_slice())?))
+    Ok(Some(octet_texts::digits_of(alloc, out.as_slice())?))
 }
 
 /// Writes the message of a kind with parts; whether there is such a message.

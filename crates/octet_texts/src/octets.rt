@@ -9,7 +9,7 @@ const SHOWN: usize = 64;
 /// So many equal octets, one after another, are printed as one with their count.
 const RUN: u32 = 8;
 
-/// The octets of parts: hexadecimal digits, digits that stand so often, as `07*300`, and texts in
+/// The octets of parts as `case_words` has them, digits and digits that stand so often, as `07*300`, and texts in
 /// quotes. None where one is no part.
 pub fn octets_of(alloc: Global, text: &str) -> Result<Option<Octets>, NoMemory> {
     let Some(items) = items_of(alloc, text)? else {
@@ -31,57 +31,15 @@ pub fn items_of(alloc: Global, text: &str) -> Result<Option<List<Octets>>, NoMem
             items.add(Octets::from_slice(alloc, part.as_bytes())?)?;
         } else {
             for word in part.split_whitespace() {
-                let Some(item) = repeated(alloc, word)? else {
+                let Some(item) = case_words::octets_of(alloc, word)? else {
                     return Ok(None);
                 };
-                items.add(item)?;
+                items.add(Octets::from_vec(item))?;
             }
         }
         in_quotes = !in_quotes;
     }
     Ok(Some(items))
-}
-
-/// The octets of digits that stand once, or as often as a number after `*` says.
-fn repeated(alloc: Global, word: &str) -> Result<Option<Octets>, NoMemory> {
-    let (digits, count) = word.split_once("*").unwrap_or((word, "1"));
-    let Ok(count) = count.parse::<u32>() else {
-        return Ok(None);
-    };
-    let mut octets = Octets::new(alloc);
-    for _ in 0..count {
-        if !add_digits(digits, &mut octets)? {
-            return Ok(None);
-        }
-    }
-    Ok(Some(octets))
-}
-
-/// Adds the octets that hexadecimal digits are, two digits each; whether they are some.
-fn add_digits(digits: &str, octets: &mut Octets) -> Result<bool, NoMemory> {
-    let mut high = None;
-    for digit in digits.bytes() {
-        let Some(value) = value_of(digit) else {
-            return Ok(false);
-        };
-        match high {
-            None => high = Some(value),
-            Some(first) => {
-                octets.add(first.wrapping_mul(16).wrapping_add(value))?;
-                high = None;
-            }
-        }
-    }
-    Ok(high.is_none())
-}
-
-/// The value of a hexadecimal digit.
-fn value_of(digit: u8) -> Option<u8> {
-    match digit {
-        b'0'..=b'9' => Some(digit - b'0'),
-        b'a'..=b'f' => Some(digit - b'a' + 10),
-        _ => None,
-    }
 }
 
 /// A text in quotes, where the octets are printed characters and not too many; else digits.

@@ -1,8 +1,9 @@
 //! The Huffman code of header strings.
 
-use crate::octets;
+use case_words::Numbers;
 use esi_base::{NoMemory, Octets, Stop};
 use hpack_huffman::{huff_decode, huff_encode, huff_len};
+use octet_texts::random_octets;
 use std::alloc::Global;
 
 /// What a code or a text is added after.
@@ -14,7 +15,7 @@ const LONGEST: u32 = 30;
 /// The code of a text, its length by `huff_len`, and how it is read where that is another text. None
 /// where the text is no octets.
 pub fn written(alloc: Global, text: &str) -> Result<Option<String>, NoMemory> {
-    let Some(text) = octets::octets_of(alloc, text)? else {
+    let Some(text) = octet_texts::octets_of(alloc, text)? else {
         return Ok(None);
     };
     let mut code = Octets::from_slice(alloc, BEFORE)?;
@@ -22,10 +23,10 @@ pub fn written(alloc: Global, text: &str) -> Result<Option<String>, NoMemory> {
     let Some(code) = code.as_slice().strip_prefix(BEFORE) else {
         return Ok(Some(String::from_str(alloc, "the octets before it changed")?));
     };
-    let digits = octets::digits_of(alloc, code)?;
+    let digits = octet_texts::digits_of(alloc, code)?;
     let count = length(text.as_slice());
     let mut answer = format!(in alloc; "{digits}, {count} octets")?;
-    let due = octets::text_of(alloc, text.as_slice())?;
+    let due = octet_texts::text_of(alloc, text.as_slice())?;
     let read = text_of_code(alloc, code)?;
     if read.as_str() != due.as_str() {
         answer.push_str(", but read as ")?;
@@ -44,7 +45,7 @@ fn length(text: &[u8]) -> usize {
 
 /// The text of a code, or the number of the rule that it breaks. None where the text is no octets.
 pub fn read(alloc: Global, text: &str) -> Result<Option<String>, NoMemory> {
-    match octets::octets_of(alloc, text)? {
+    match octet_texts::octets_of(alloc, text)? {
         Some(code) => Ok(Some(text_of_code(alloc, code.as_slice())?)),
         None => Ok(None),
     }
@@ -55,7 +56,7 @@ pub fn text_of_code(alloc: Global, code: &[u8]) -> Result<String, NoMemory> {
     let mut text = Octets::from_slice(alloc, BEFORE)?;
     match huff_decode(code, &mut text) {
         Ok(()) => match text.as_slice().strip_prefix(BEFORE) {
-            Some(text) => octets::text_of(alloc, text),
+            Some(text) => octet_texts::text_of(alloc, text),
             None => Ok(String::from_str(alloc, "the octets before it changed")?),
         },
         Err(Stop::Refused(rule)) if text.as_slice() == BEFORE => {
@@ -76,4 +77,26 @@ pub fn words(alloc: Global) -> Result<Option<String>, NoMemory> {
         sum = sum.wrapping_add(1 << LONGEST.saturating_sub(bits));
     }
     Ok(Some(format!(in alloc; "{sum}")?))
+}
+
+/// Whether a random text comes back from its Huffman code.
+pub fn text_comes_back(alloc: Global, numbers: &mut Numbers) -> Result<bool, NoMemory> {
+    let text = random_octets(alloc, numbers, 200)?;
+    let mut code = Octets::new(alloc);
+    huff_encode(text.as_slice(), &mut code)?;
+    let due = octet_texts::text_of(alloc, text.as_slice())?;
+    let read = text_of_code(alloc, code.as_slice())?;
+    Ok(read.as_str() == due.as_str())
+}
+
+/// Whether random octets, where they are the Huffman code of a text, are the code that is written for it.
+pub fn code_comes_back(alloc: Global, numbers: &mut Numbers) -> Result<bool, NoMemory> {
+    let code = random_octets(alloc, numbers, 12)?;
+    let mut text = Octets::new(alloc);
+    if huff_decode(code.as_slice(), &mut text).is_err() {
+        return Ok(text.is_empty());
+    }
+    let mut written = Octets::new(alloc);
+    huff_encode(text.as_slice(), &mut written)?;
+    Ok(written.as_slice() == code.as_slice())
 }

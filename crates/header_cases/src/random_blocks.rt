@@ -1,11 +1,12 @@
 //! Random header blocks: each representation, with a model of the table beside them.
 
 use crate::table_model::{TableModel, static_entry};
-use crate::{header_blocks, header_lists, random};
+use crate::{header_blocks, header_lists};
 use case_words::Numbers;
 use esi_base::{List, NoMemory, Octets};
 use hpack::{Decoder, Encoder, Header, Headers};
 use hpack_huffman::huff_encode;
+use octet_texts::random_octets;
 use std::alloc::Global;
 
 /// How many entries the static table has.
@@ -78,9 +79,9 @@ fn random_headers(alloc: Global, numbers: &mut Numbers) -> Result<Headers, NoMem
 
 /// A random header.
 fn random_header(alloc: Global, numbers: &mut Numbers) -> Result<Header, NoMemory> {
-    let name = random::octets(alloc, numbers, 24)?;
+    let name = random_octets(alloc, numbers, 24)?;
     let bound = if numbers.below(10) == 0 { 600 } else { 30 };
-    let value = random::octets(alloc, numbers, bound)?;
+    let value = random_octets(alloc, numbers, bound)?;
     Ok(Header { name, value })
 }
 

@@ -2,7 +2,7 @@
 ghost use Rattle.std.specs.Prelude.{◌≡◌, ◌≤◌, ◌+◌, IsTrue, IfSome};
 ghost use Rattle.hpack.specs.Tables.{list_size, size_of};
 
-use crate::{header_blocks, octets};
+use crate::header_blocks;
 use esi_base::{List, NoMemory, Octets};
 use hpack::{Decoder, Encoder, Header, Headers, MAX_HEADER_LIST_SIZE};
 use std::alloc::Global;
@@ -50,7 +50,7 @@ fn block_text(
     if !write(encoder, &headers, &mut out)? {
         return Ok(None);
     }
-    let mut answer = octets::digits_of(alloc, out.as_slice())?;
+    let mut answer = octet_texts::digits_of(alloc, out.as_slice())?;
     let due = header_blocks::of_headers(alloc, headers.as_slice())?;
     let read = header_blocks::headers_of(alloc, decoder, out.as_slice())?;
     if read.as_str() != due.as_str() {
@@ -62,7 +62,7 @@ fn block_text(
 
 /// Headers of names and values, one after another; None where the text is none.
 pub fn headers_of(alloc: Global, text: &str) -> Result<Option<Headers>, NoMemory> {
-    let Some(parts) = octets::items_of(alloc, text)? else {
+    let Some(parts) = octet_texts::items_of(alloc, text)? else {
         return Ok(None);
     };
     let mut headers = List::new(alloc);

@@ -1,6 +1,5 @@
 //! Header blocks, read by one decoder.
 
-use crate::octets;
 use esi_base::{NoMemory, Stop};
 use hpack::{Decoder, Header, Headers, HpackStop};
 use std::alloc::Global;
@@ -13,7 +12,7 @@ pub fn read(alloc: Global, text: &str) -> Result<Option<String>, NoMemory> {
     let mut decoder = Decoder::new(alloc)?;
     let mut answer = String::new(alloc);
     for (at, block) in text.split("|").enumerate() {
-        let Some(octets) = octets::octets_of(alloc, block)? else {
+        let Some(octets) = octet_texts::octets_of(alloc, block)? else {
             return Ok(None);
         };
         if at > 0 {
@@ -59,8 +58,8 @@ pub fn of_headers(alloc: Global, headers: &[Header]) -> Result<String, NoMemory>
         if at > 0 {
             text.push_str(", ")?;
         }
-        let name = octets::text_of(alloc, header.name.as_slice())?;
-        let value = octets::text_of(alloc, header.value.as_slice())?;
+        let name = octet_texts::text_of(alloc, header.name.as_slice())?;
+        let value = octet_texts::text_of(alloc, header.value.as_slice())?;
         text.push_str(name.as_str())?;
         text.push_str(" ")?;
         text.push_str(value.as_str())?;

@@ -1,7 +1,7 @@
 use Rattle.std.proofs.Common.{◌≡◌, ◌+◌, take}
 use Rattle.hpack.specs.Tables.{list_size}
 use Rattle.hpack.specs.declared.limits.TheConstants.{MAX_HEADER_LIST_SIZE}
-use Rattle.wire_cases.proofs.header_lists.is_small.Given as goal
+use Rattle.header_cases.proofs.header_lists.is_small.Given as goal
 
 -- the size of the headers so far and the room that is left are the greatest size
 abbrev pub invariant-loop-header : goal.invariant-loop-header
